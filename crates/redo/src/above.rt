@@ -1,9 +1,10 @@
 //! The directory that a run is over, and directories above it.
 
+use crate::commands::{DIRECTORY, TOP};
+use crate::line::Line;
 use crate::options::Refusal;
-use clap::ArgMatches;
-use redo_path::{Path, resolve};
-use std::alloc::Global;
+use redo_path::{Path, PathFault, resolve};
+use std::alloc::{AllocError, Global};
 use std::io::ErrorKind;
 use std::path::Path as SystemPath;
 use std::rt::Runtime;
@@ -64,12 +65,12 @@ fn nearest<H: Runtime>(rt: &H, alloc: Global) -> Result<Here, Refusal> {
 pub(crate) fn place_of<H: Runtime>(
     rt: &H,
     alloc: Global,
-    matches: &ArgMatches<'_>,
+    line: &Line<'_>,
 ) -> Result<Here, Refusal> {
-    if matches.get_flag("top") {
+    if line.has(TOP) {
         return nearest(rt, alloc);
     }
-    let top = String::from_str(alloc, matches.get_str("directory").unwrap_or("."))?;
+    let top = String::from_str(alloc, line.word(DIRECTORY).unwrap_or("."))?;
     Ok(Here {
         top,
         below: Path::root(),
@@ -87,4 +88,45 @@ pub(crate) fn levels_to_book<H: Runtime>(rt: &H, alloc: Global, dir: &str) -> Op
         }
     }
     None
+}
+
+/// How an absolute path that is below a directory is written from there.
+fn from_dir<H: Runtime>(
+    rt: &H,
+    alloc: Global,
+    dir: &str,
+    word: &str,
+) -> Result<Option<String>, AllocError> {
+    let Ok(place) = fs::canonicalize(rt, SystemPath::new(dir)) else {
+        return Ok(None);
+    };
+    let Some(rest) = word.strip_prefix(place.as_str()) else {
+        return Ok(None);
+    };
+    match rest.strip_prefix('/') {
+        Some(path) if !path.is_empty() => Ok(Some(format!(in alloc; "{path:?}")?)),
+        _ => Ok(None),
+    }
+}
+
+/// What to say in place of a word that names no target, if that is known: an absolute path from the top, and of one that
+/// leads above it that a book stands there.
+pub(crate) fn instead_of<H: Runtime>(
+    rt: &H,
+    alloc: Global,
+    here: &Here,
+    word: &str,
+    why: PathFault,
+) -> Result<Option<String>, AllocError> {
+    match why {
+        PathFault::Absolute if here.below.text().is_empty() => {
+            from_dir(rt, alloc, here.top.as_str(), word)
+        }
+        PathFault::Above => match levels_to_book(rt, alloc, here.top.as_str()) {
+            Some(1) => Ok(Some(format!(in alloc; "redo --top, as .. has a book")?)),
+            Some(_) => Ok(Some(format!(in alloc; "redo --top, as a directory above has a book")?)),
+            None => Ok(None),
+        },
+        _ => Ok(None),
+    }
 }

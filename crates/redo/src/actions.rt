@@ -17,6 +17,10 @@ pub(crate) struct BuildOptions {
     pub(crate) explained: bool,
     /// Whether a stale file is a failure.
     pub(crate) strict: bool,
+    /// What leads from where the user is to the top: nothing, or a path that ends in a slash.
+    pub(crate) to_top: Vec<u8>,
+    /// The directory in which words are read, from the top.
+    pub(crate) below: Path,
 }
 
 /// Of which run what is out of date is listed, and how.
@@ -34,6 +38,14 @@ pub(crate) struct Listing {
 #[derive(Drop)]
 pub(crate) struct Query {
     pub(crate) question: Question,
+    pub(crate) input: Input,
+    /// How many threads read the tree.
+    pub(crate) workers: usize,
+}
+
+/// Of which tree the sources are listed that have a rule.
+#[derive(Drop)]
+pub(crate) struct Shadows {
     pub(crate) input: Input,
     /// How many threads read the tree.
     pub(crate) workers: usize,
@@ -57,6 +69,17 @@ pub(crate) struct Cleaning {
     pub(crate) dry_run: bool,
 }
 
+/// Of which build what it doesn't need is listed, or removed.
+#[derive(Drop)]
+pub(crate) struct Dead {
+    /// The build, which is tried out.
+    pub(crate) build: BuildOptions,
+    /// Whether it is removed.
+    pub(crate) cleaned: bool,
+    /// Whether nothing is removed, but said what would be.
+    pub(crate) dry_run: bool,
+}
+
 /// What the command line asks for.
 #[derive(Drop)]
 pub(crate) struct Call {
@@ -73,12 +96,16 @@ pub(crate) enum Action {
     Ask(Query),
     /// What is out of date is printed.
     OutOfDate(Listing),
+    /// The sources that have a rule are printed.
+    Shadowed(Shadows),
     /// A directory is printed as a bundle.
     Pack(Packing),
     /// A bundle on standard input becomes a directory.
     Unpack(String),
     /// What the last run left in a directory is removed.
     Clean(Cleaning),
+    /// What builds left and a build doesn't need is listed, or removed.
+    Dead(Dead),
 }
 
 impl Action {
@@ -91,6 +118,15 @@ impl Action {
                     ..
                 },
             )
+            | Action::Dead(
+                Dead {
+                    build: BuildOptions {
+                        input: Input::Directory(dir),
+                        ..
+                    },
+                    ..
+                },
+            )
             | Action::Whichdo(_, Input::Directory(dir))
             | Action::Ask(
                 Query {
@@ -100,6 +136,12 @@ impl Action {
             )
             | Action::OutOfDate(
                 Listing {
+                    input: Input::Directory(dir),
+                    ..
+                },
+            )
+            | Action::Shadowed(
+                Shadows {
                     input: Input::Directory(dir),
                     ..
                 },

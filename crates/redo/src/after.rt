@@ -2,16 +2,18 @@
 
 use crate::above::{has_book, levels_to_book};
 use crate::actions::BuildOptions;
-use crate::diagnosing::say_diagnoses;
+use crate::diagnosing::{say_diagnoses, say_echoes, say_scripts};
+use crate::found::Found;
 use crate::options::{Format, Input, Storing};
-use crate::status::Fault;
-use crate::summary::{Counted, Summary};
+use crate::summary::{Counted, written};
 use crate::voice::Voice;
 use bstr::{BStr, ByteSlice};
+use redo_diagnose::shown_lines;
 use redo_explain::explain;
-use redo_notes::{notes, text_of};
-use redo_past::Past;
+use redo_notes::text_of;
+use redo_path::Path;
 use redo_report::Report;
+use redo_short::summary_words;
 use redo_tree::Tree;
 use std::alloc::{AllocError, Global};
 use std::path::Path as SystemPath;
@@ -41,7 +43,7 @@ impl After<'_> {
     /// Whether nothing is to be said.
     pub(crate) fn is_silent(&self) -> bool {
         let is_plain = self.build.format == Format::Report;
-        let is_quiet = !self.voice.notes && !self.voice.progress;
+        let is_quiet = !self.voice.notes && !self.voice.summary;
         is_plain && is_quiet && !self.build.explained && !self.build.strict
     }
 }
@@ -58,13 +60,49 @@ fn say<H: Runtime>(rt: &H, text: &[u8]) {
 }
 
 /// Where the directory is so many levels above, from here.
-fn way_up(alloc: Global, levels: usize) -> Result<Vec<u8>, AllocError> {
+pub(crate) fn way_up(alloc: Global, levels: usize) -> Result<Vec<u8>, AllocError> {
     let mut way = Vec::new(alloc);
     way.extend_from_slice(b"..")?;
     for _ in 1..levels {
         way.extend_from_slice(b"/..")?;
     }
     Ok(way)
+}
+
+/// The targets of a build as they are named on a command line; nothing where that is `all`.
+fn words_of_request(alloc: Global, targets: &[Path]) -> Result<Vec<u8>, AllocError> {
+    let mut words = Vec::new(alloc);
+    if targets.len() > 1 {
+        for target in targets {
+            words.push(b' ')?;
+            words.extend_from_slice(target.text())?;
+        }
+    }
+    shown_lines(alloc, &words)
+}
+
+/// Says how many files builds left that this one doesn't need, if there are any, and how to see them.
+fn note_dead<H: Runtime>(
+    rt: &H,
+    alloc: Global,
+    after: &After<'_>,
+    dead: usize,
+) -> Result<(), AllocError> {
+    if dead == 0 {
+        return Ok(());
+    }
+    let (files, verb) = if dead == 1 {
+        ("file", "is")
+    } else {
+        ("files", "are")
+    };
+    let words = words_of_request(alloc, &after.build.options.targets)?;
+    let targets = BStr::new(words.trim_ascii_end());
+    let text = format!(in alloc;
+        "{dead} {files} that builds left {verb} needed no more; see redo --dead{targets}, and redo --clean --dead{targets}"
+    )?;
+    after.voice.note(rt, text.as_bytes());
+    Ok(())
 }
 
 /// Says that a book stands above the directory, if one does, and what to do.
@@ -90,44 +128,75 @@ fn note_book_above<H: Runtime>(
     Ok(())
 }
 
-/// Says in one line what a build came to, and how long it took.
-fn say_summary<H: Runtime>(rt: &H, after: &After<'_>, summary: Summary, milliseconds: u64) {
+/// What a build wrote or would write, and how long it took.
+fn say_end<H: Runtime>(rt: &H, after: &After<'_>, said: &str, files: u64, milliseconds: u64) {
     let seconds = milliseconds / 1_000;
     let hundredths = milliseconds % 1_000 / 10;
-    let files = Counted(summary.written, "file");
+    let files = Counted(files, "file");
     let _shown = match (&after.build.input, after.build.storing) {
-        (Input::Bundle, _) => eprintln!(rt; "{summary}; {seconds}.{hundredths:02} s"),
+        (Input::Bundle, _) => eprintln!(rt; "{said}{seconds}.{hundredths:02} s"),
         (_, Storing::Nothing) => {
-            eprintln!(rt; "{summary}; {files} to write; {seconds}.{hundredths:02} s")
+            eprintln!(rt; "{said}{files} to write; {seconds}.{hundredths:02} s")
         }
-        _ => eprintln!(rt; "{summary}; {files} written; {seconds}.{hundredths:02} s"),
+        _ => eprintln!(rt; "{said}{files} written; {seconds}.{hundredths:02} s"),
     };
 }
 
-/// Says what is to be said of what a build came to. Returns whether nothing is stale that is to be refused.
+/// Says in one line what a build came to, and how long it took. What standard output has said isn't said again.
+fn say_summary<H: Runtime>(
+    rt: &H,
+    alloc: Global,
+    after: &After<'_>,
+    built: &Built<'_>,
+    milliseconds: u64,
+) -> Result<(), AllocError> {
+    let files = written(built.report, built.tree);
+    if after.build.format == Format::Short {
+        say_end(rt, after, "", files, milliseconds);
+        return Ok(());
+    }
+    let summary = summary_words(alloc, built.report)?;
+    let said = format!(in alloc; "{summary}; ")?;
+    say_end(rt, after, said.as_str(), files, milliseconds);
+    Ok(())
+}
+
+/// Says what is to be said of what a build came to.
 pub(crate) fn say_after<H: Runtime + Threads + Sync>(
     rt: &H,
     alloc: Global,
     after: &After<'_>,
     built: &Built<'_>,
-) -> Result<bool, Fault> {
+    found: &Found,
+) -> Result<(), AllocError> {
     let (build, report) = (after.build, built.report);
-    let past = Past::open_by(rt, alloc, build.options.workers, built.tree.clone()?)?;
+    let Found {
+        past,
+        notes,
+        dead,
+        ..
+    } = found;
     if build.explained {
-        say(rt, &explain(alloc, &past, &build.options.targets, report)?);
+        let text = explain(alloc, past, &build.options.targets, report)?;
+        say(rt, &shown_lines(alloc, &text)?);
     }
     if after.voice.notes {
-        say_diagnoses(rt, alloc, after, &past, report)?;
+        say_diagnoses(rt, alloc, after, past, report)?;
     }
-    let notes = notes(alloc, &past, &build.options.targets, report)?;
     if after.voice.notes || build.strict {
-        after.voice.note(rt, &text_of(alloc, &notes, MOST_NOTES)?);
+        let text = text_of(alloc, notes, MOST_NOTES)?;
+        after.voice.note(rt, &shown_lines(alloc, &text)?);
+        note_dead(rt, alloc, after, *dead)?;
+    }
+    if after.voice.notes {
+        say_echoes(rt, alloc, after, past, report)?;
+        say_scripts(rt, alloc, after, report)?;
     }
     if let (true, Input::Directory(dir)) = (after.voice.notes, &build.input) {
         note_book_above(rt, alloc, after, dir)?;
     }
     if let Some(milliseconds) = after.milliseconds {
-        say_summary(rt, after, Summary::of(report, built.tree), milliseconds);
+        say_summary(rt, alloc, after, built, milliseconds)?;
     }
-    Ok(!build.strict || notes.is_empty())
+    Ok(())
 }

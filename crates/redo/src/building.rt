@@ -4,7 +4,9 @@ ghost use Rattle.std.specs.Prelude.{◌≡◌, false};
 
 use crate::actions::BuildOptions;
 use crate::after::{After, Built, say_after};
+use crate::behind::{Behind, Watched};
 use crate::formats::print_report;
+use crate::found::{Found, find};
 use crate::options::{Format, Input, Storing};
 use crate::passing::note_names;
 use crate::progress::Progress;
@@ -13,9 +15,9 @@ use crate::voice::Voice;
 use crate::{buffered, flush, lock, note_passed};
 use redo_bundle::Plain;
 use redo_dir::{Lockable, SystemDir};
-use redo_run::{BundleRun, Cause, DirRun, Exit, Host, preview_dir, run_bundle, run_dir};
+use redo_run::{BundleRun, Cause, DirRun, Exit, Host, Said, preview_dir, run_bundle, run_dir};
 use std::alloc::Global;
-use std::io::{BufWriter, Write};
+use std::io::{BufWriter, ErrorKind, Write};
 use std::rt::Runtime;
 use std::sync::Wait;
 use std::thread::Threads;
@@ -23,7 +25,7 @@ use std::{io, mem};
 
 /// What a build came to.
 #[derive(Drop)]
-enum Run {
+pub(crate) enum Run {
     OverBundle(BundleRun),
     OverDir(DirRun),
 }
@@ -42,7 +44,7 @@ where
     let outcome = match build.format {
         Format::Report => build_and_write(host, build, io::writer(host.rt), cause),
         // The report is made of what the build returns.
-        Format::Json | Format::Dot(_) | Format::Html => {
+        Format::Short | Format::Json | Format::Dot(_) | Format::Html => {
             build_and_write(host, build, io::sink(), cause)
         }
     };
@@ -58,12 +60,40 @@ where
     }
 }
 
-/// What is said behind a report changes how a strict build ends, and no other. If there is no memory for it, it is left
-/// out.
-fn is_fine(after: &After<'_>, said: Result<bool, Fault>) -> Result<bool, Fault> {
-    match said {
-        Err(_) if !after.build.strict => Ok(true),
-        said => said,
+/// What is found beside a report, if anything is to be said of it. If there is no memory for it, it is left out, unless the
+/// build's end hangs on it, or what is printed.
+fn find_for<H: Runtime + Threads + Sync>(
+    rt: &H,
+    alloc: Global,
+    after: &After<'_>,
+    built: &Built<'_>,
+) -> Result<Option<Found>, Fault> {
+    if after.is_silent() {
+        return Ok(None);
+    }
+    let is_plain = after.build.format == Format::Report;
+    match find(rt, alloc, after.build, built) {
+        Ok(found) => Ok(Some(found)),
+        Err(_) if is_plain && !after.build.strict => Ok(None),
+        Err(fault) => Err(fault),
+    }
+}
+
+/// Says what is to be said of what was found, and returns whether nothing is stale that is to be refused. What can't be
+/// said for want of memory is left out, unless the build is strict.
+fn say_found<H: Runtime + Threads + Sync>(
+    rt: &H,
+    alloc: Global,
+    after: &After<'_>,
+    built: &Built<'_>,
+    found: &Option<Found>,
+) -> Result<bool, Fault> {
+    let Some(found) = found else {
+        return Ok(true);
+    };
+    match say_after(rt, alloc, after, built, found) {
+        Err(_) if after.build.strict => Err(Fault::Memory),
+        _ => Ok(found.is_fine),
     }
 }
 
@@ -84,15 +114,17 @@ fn end_over_bundle<H: Runtime + Threads + Sync>(
     }
     let report = match report.into_report(alloc) {
         Ok(report) => report,
-        Err(_) => return Ok(is_fine(after, Err(Fault::Memory))? && good),
+        Err(_) if after.build.strict => return Err(Fault::Memory),
+        Err(_) => return Ok(good),
     };
     let built = Built {
         tree: &tree,
         report: &report,
         good,
     };
-    print_report(rt, alloc, after.build, &built)?;
-    Ok(is_fine(after, say_after(rt, alloc, after, &built))? && good)
+    let found = find_for(rt, alloc, after, &built)?;
+    print_report(rt, alloc, after.build, &built, &found)?;
+    Ok(say_found(rt, alloc, after, &built, &found)? && good)
 }
 
 /// Says what is to be said of a build over a directory, and returns whether all went well.
@@ -108,23 +140,20 @@ fn end_over_dir<H: Runtime + Threads + Sync>(
         report: &run.report,
         good,
     };
-    print_report(rt, alloc, after.build, &built)?;
+    let found = find_for(rt, alloc, after, &built)?;
+    print_report(rt, alloc, after.build, &built, &found)?;
     note_passed(rt, run.passed);
     if let (true, Input::Directory(dir)) = (run.passed != 0, &after.build.input) {
         note_names(rt, alloc, after.voice, dir, &run.tree);
     }
-    let fine = if after.is_silent() {
-        true
-    } else {
-        is_fine(after, say_after(rt, alloc, after, &built))?
-    };
+    let fine = say_found(rt, alloc, after, &built, &found)?;
     // Forgotten as above.
     mem::forget(run);
     Ok(fine && good)
 }
 
 /// Builds targets, and writes the whole report to a stream.
-fn build_and_write<H: Runtime + Threads + Wait + Sync, W: Write + Drop>(
+pub(crate) fn build_and_write<H: Runtime + Threads + Wait + Sync, W: Write + Drop>(
     host: &Host<'_, H, Progress<'_>>,
     build: &BuildOptions,
     stream: W,
@@ -134,10 +163,20 @@ where
     H::File: Send + Lockable,
     H::Dir: Send,
 {
-    let mut writer = Plain::new(buffered(host.alloc, stream)?);
+    let stream = Watched {
+        stream,
+        has_gone: false,
+    };
+    let mut writer = Behind {
+        out: Plain::new(buffered(host.alloc, stream)?),
+        progress: host.observer,
+    };
     let outcome = build_to(host, build, &mut writer, cause);
     // After a failed write the rest isn't tried again, as it would be if the buffer were dropped.
-    let (_stream, _unwritten) = writer.stream.into_parts();
+    let (stream, _unwritten) = writer.out.stream.into_parts();
+    if stream.has_gone {
+        cause.said = Some(Said::System(ErrorKind::BrokenPipe));
+    }
     outcome
 }
 
@@ -145,13 +184,13 @@ where
 fn build_to<H: Runtime + Threads + Wait + Sync, W: Write + Drop>(
     host: &Host<'_, H, Progress<'_>>,
     build: &BuildOptions,
-    writer: &mut Plain<BufWriter<W>>,
+    writer: &mut Behind<'_, Plain<BufWriter<W>>>,
     cause: &mut Cause,
 ) -> Result<Run, Fault>
 where
     H::File: Send + Lockable,
     H::Dir: Send,
-    requires { writer.old.broken ≡ false }
+    requires { writer.old.out.broken ≡ false }
 {
     let run = match &build.input {
         Input::Bundle => {
@@ -160,7 +199,7 @@ where
         }
         Input::Directory(dir) => Run::OverDir(build_dir(host, dir, build, writer, cause)?),
     };
-    flush(&mut writer.stream)?;
+    flush(&mut writer.out.stream)?;
     Ok(run)
 }
 
@@ -169,13 +208,13 @@ fn build_dir<H: Runtime + Threads + Wait + Sync, W: Write + Drop>(
     host: &Host<'_, H, Progress<'_>>,
     dir: &str,
     build: &BuildOptions,
-    writer: &mut Plain<BufWriter<W>>,
+    writer: &mut Behind<'_, Plain<BufWriter<W>>>,
     cause: &mut Cause,
 ) -> Result<DirRun, Fault>
 where
     H::File: Send + Lockable,
     H::Dir: Send,
-    requires { writer.old.broken ≡ false }
+    requires { writer.old.out.broken ≡ false }
 {
     let options = &build.options;
     if build.storing == Storing::Nothing {

@@ -1,23 +1,37 @@
 //! The cause behind a message, which `-v` adds if it is known.
 
 use crate::actions::Action;
+use crate::damaged;
 use crate::options::TARGETS;
 use crate::status::Fault;
 use bstr::BStr;
 use redo_bundle::BundleFault;
 use redo_path::PathFault;
-use redo_run::Cause;
+use redo_run::{Cause, Said};
 use std::alloc::{AllocError, Global};
 use std::fmt::Display;
+use std::io::ErrorKind;
+use std::rt::Runtime;
 
 /// A cause in words, or `None` if no more is known than the message says.
 pub(crate) type Words = Result<Option<String>, AllocError>;
 
-/// The target word that is refused, and why. If memory ran out in the search for it, nothing is known.
-pub(crate) fn of_target(alloc: Global, bad: Option<(&str, PathFault)>) -> Words {
-    match bad {
-        Some((_, PathFault::Memory)) | None => Ok(None),
-        Some((word, why)) => of_path(alloc, word.as_bytes(), why),
+/// The target word that is refused, and why, and what to say in its place, if that is known. If memory ran out in the
+/// search for it, nothing is known.
+pub(crate) fn of_target(
+    alloc: Global,
+    bad: Option<(&str, PathFault)>,
+    instead: Option<String>,
+) -> Words {
+    let Some((word, why)) = bad else {
+        return Ok(None);
+    };
+    if why == PathFault::Memory {
+        return Ok(None);
+    }
+    match instead {
+        Some(help) => Ok(Some(format!(in alloc; "{word:?}: {why}; say {help}")?)),
+        None => of_path(alloc, word.as_bytes(), why),
     }
 }
 
@@ -29,7 +43,13 @@ pub(crate) fn of_no_keep_going(alloc: Global) -> Words {
 }
 
 /// The cause of a run's fault: the entry of the bundle, the directory or file, the book, or the limit.
-pub(crate) fn of_fault(alloc: Global, fault: Fault, cause: &Cause, action: &Action) -> Words {
+pub(crate) fn of_fault<H: Runtime>(
+    rt: &H,
+    alloc: Global,
+    fault: Fault,
+    cause: &Cause,
+    action: &Action,
+) -> Words {
     match fault {
         Fault::Bundle(fault) => of_bundle(alloc, fault, &cause.header),
         Fault::Directory => of_unread(alloc, cause, action.directory()),
@@ -44,21 +64,31 @@ pub(crate) fn of_fault(alloc: Global, fault: Fault, cause: &Cause, action: &Acti
             "{:?} has names; a bundle is unpacked into an empty directory or a new one",
             action.directory()
         )?)),
-        Fault::Output if action.stores_first() => Ok(Some(format!(in alloc;
-            "the files and the book are stored; only the report is lost"
-        )?)),
+        Fault::Output if action.stores_first() => of_lost_report(alloc, cause),
         Fault::Output => Ok(None),
         Fault::Busy => Ok(Some(format!(in alloc;
             "the lock of {:?} is held; a run gives it back when it ends, however it ends",
             action.directory()
         )?)),
-        Fault::Book(_) => Ok(Some(format!(in alloc;
-            "the file .redo-book is not as a run leaves it; after a merge take one side's whole, as by \
-            git checkout --ours .redo-book; without it each file that was built counts as yours"
-        )?)),
+        Fault::Book(line) => {
+            let words = damaged::words_of(rt, alloc, action.directory(), line);
+            Ok(Some(String::from_str(alloc, words)?))
+        }
+        Fault::Unbuilt => Ok(Some(format!(in alloc; "redo -k -n -v says why it fails")?)),
         Fault::TooMany => Ok(Some(format!(in alloc; "more than {TARGETS} targets are needed")?)),
         Fault::Memory => Ok(None),
     }
+}
+
+/// Why the report of a run can't be written that has stored its files.
+fn of_lost_report(alloc: Global, cause: &Cause) -> Words {
+    let words = match cause.said {
+        Some(Said::System(ErrorKind::BrokenPipe)) => {
+            "the reader of the report has gone; the files and the book are stored"
+        }
+        _ => "the files and the book are stored; only the report is lost",
+    };
+    Ok(Some(String::from_str(alloc, words)?))
 }
 
 /// The entry at which a bundle is refused.

@@ -37,14 +37,14 @@ where
 }
 
 /// Prints what a clean did, or would do.
-fn print<H: Runtime>(rt: &H, text: &[u8]) -> Result<(), Fault> {
+pub(crate) fn print<H: Runtime>(rt: &H, text: &[u8]) -> Result<(), Fault> {
     let mut writer = Plain::new(io::writer(rt));
     Ok(write_all(&mut writer, text)?)
 }
 
 /// Removes what the last run left, and prints what became of it. Where the clean is broken off, what it has removed is
 /// printed, too.
-fn clean_by_plan<D: WorkDir, H: Runtime>(
+pub(crate) fn clean_by_plan<D: WorkDir, H: Runtime>(
     rt: &H,
     alloc: Global,
     dir: &mut D,

@@ -1,53 +1,65 @@
 //! The options that say what is done in place of a build, and which options don't go together.
 
+use crate::line::{Line, Named};
 use crate::options::{Refusal, target};
-use clap::parser::ValueSource;
 use clap::{Arg, ArgAction, ArgMatches, Command};
 use redo_path::{Path, PathFault};
 use redo_query::Question;
 use std::alloc::{AllocError, Global};
 
-/// An option: by which name the parser knows it, and how users write it.
-#[derive(Clone, Copy)]
-struct Named(&'static str, &'static str);
+pub(crate) const OOD: Named = Named("ood", "--ood");
 
-const OOD: Named = Named("ood", "--ood");
+pub(crate) const WHICHDO: Named = Named("whichdo", "--whichdo");
 
-const PACK: Named = Named("pack", "--pack");
+pub(crate) const TARGETS: Named = Named("list-targets", "--targets");
 
-const UNPACK: Named = Named("unpack", "--unpack");
+pub(crate) const SOURCES: Named = Named("list-sources", "--sources");
 
-const CLEAN: Named = Named("clean", "--clean");
+pub(crate) const DEPS: Named = Named("deps", "--deps");
 
-const BUNDLE: Named = Named("bundle", "--bundle");
+pub(crate) const RDEPS: Named = Named("rdeps", "--rdeps");
 
-const DIRECTORY: Named = Named("directory", "-C");
+pub(crate) const ALL: Named = Named("all", "--all");
 
-const TOP: Named = Named("top", "--top");
+pub(crate) const SHADOWED: Named = Named("shadowed", "--shadowed");
 
-const SYNC: Named = Named("sync", "--sync");
+pub(crate) const PACK: Named = Named("pack", "--pack");
 
-const DRY_RUN: Named = Named("dry-run", "-n");
+pub(crate) const UNPACK: Named = Named("unpack", "--unpack");
 
-const EXPLAIN: Named = Named("explain", "--explain");
+pub(crate) const CLEAN: Named = Named("clean", "--clean");
 
-const STRICT: Named = Named("strict", "--strict");
+pub(crate) const DEAD: Named = Named("dead", "--dead");
 
-const FORMAT: Named = Named("format", "--format");
+pub(crate) const BUNDLE: Named = Named("bundle", "--bundle");
 
-const WITH_RULES: Named = Named("with-rules", "--with-rules");
+pub(crate) const DIRECTORY: Named = Named("directory", "-C");
 
-/// What is done in place of a build. Each of these options excludes the others.
-static COMMANDS: [Named; 9] = [
-    Named("whichdo", "--whichdo"),
-    Named("list-targets", "--targets"),
-    Named("list-sources", "--sources"),
-    Named("deps", "--deps"),
-    Named("rdeps", "--rdeps"),
-    OOD,
-    PACK,
-    UNPACK,
-    CLEAN,
+pub(crate) const TOP: Named = Named("top", "--top");
+
+pub(crate) const SYNC: Named = Named("sync", "--sync");
+
+pub(crate) const DRY_RUN: Named = Named("dry-run", "-n");
+
+pub(crate) const EXPLAIN: Named = Named("explain", "--explain");
+
+pub(crate) const STRICT: Named = Named("strict", "--strict");
+
+pub(crate) const FORMAT: Named = Named("format", "--format");
+
+pub(crate) const WITH_RULES: Named = Named("with-rules", "--with-rules");
+
+pub(crate) const JOBS: Named = Named("jobs", "-j");
+
+pub(crate) const KEEP_GOING: Named = Named("keep-going", "-k");
+
+pub(crate) const VERBOSE: Named = Named("verbose", "-v");
+
+pub(crate) const QUIET: Named = Named("quiet", "-q");
+
+/// What is done in place of a build. Each of these options excludes the others, but for a clean of what is dead.
+static COMMANDS: [Named; 11] = [
+    WHICHDO, TARGETS, SOURCES, DEPS, RDEPS, OOD, SHADOWED, PACK, UNPACK, CLEAN, DEAD,
 ];
 
 /// Other options that exclude each other.
@@ -62,18 +74,11 @@ static PAIRS: [(Named, Named); 11] = [
     (BUNDLE, DRY_RUN),
     (DIRECTORY, TOP),
     (SYNC, DRY_RUN),
-    (Named("verbose", "-v"), Named("quiet", "-q")),
+    (VERBOSE, QUIET),
 ];
 
 /// Options of builds. [`takes`] tells which command takes one of them, too.
 static OF_BUILDS: [Named; 6] = [SYNC, EXPLAIN, STRICT, FORMAT, WITH_RULES, DRY_RUN];
-
-impl Named {
-    /// Whether the option is on the command line.
-    fn is_used(self, matches: &ArgMatches<'_>) -> bool {
-        matches.value_source(self.0) == Some(ValueSource::CommandLine)
-    }
-}
 
 /// Under which heading the help has the questions to the book.
 const BOOK: &str = "What the book knows, building nothing";
@@ -126,6 +131,14 @@ fn ood<'a>(alloc: Global) -> Arg<'a> {
         .help_heading(BOOK)
 }
 
+fn shadowed<'a>(alloc: Global) -> Arg<'a> {
+    Arg::new(alloc, "shadowed")
+        .long("shadowed")
+        .action(ArgAction::SetTrue)
+        .help("Print the sources that have a rule")
+        .help_heading(BOOK)
+}
+
 fn pack<'a>(alloc: Global) -> Arg<'a> {
     Arg::new(alloc, "pack")
         .long("pack")
@@ -150,6 +163,14 @@ fn clean<'a>(alloc: Global) -> Arg<'a> {
         .help_heading("Trees")
 }
 
+fn dead<'a>(alloc: Global) -> Arg<'a> {
+    Arg::new(alloc, "dead")
+        .long("dead")
+        .action(ArgAction::SetTrue)
+        .help("Print or clean built files that TARGETS need no more")
+        .help_heading("Trees")
+}
+
 /// Adds these options to the forms of the command line.
 pub(crate) fn with_commands<'a>(
     alloc: Global,
@@ -162,56 +183,56 @@ pub(crate) fn with_commands<'a>(
         .arg(rdeps(alloc))?
         .arg(all(alloc))?
         .arg(ood(alloc))?
+        .arg(shadowed(alloc))?
         .arg(pack(alloc))?
         .arg(unpack(alloc))?
-        .arg(clean(alloc))
+        .arg(clean(alloc))?
+        .arg(dead(alloc))
 }
 
 /// Whether an option says what is done in place of a build.
-pub(crate) fn is_given(matches: &ArgMatches<'_>) -> bool {
-    COMMANDS.iter().any(|option| option.is_used(matches))
+pub(crate) fn is_given(line: &Line<'_>) -> bool {
+    COMMANDS.iter().any(|option| line.has_own(*option))
 }
 
 /// The question that is asked, if one is.
 pub(crate) fn question_of(
     alloc: Global,
-    matches: &ArgMatches<'_>,
+    line: &Line<'_>,
     below: &Path,
 ) -> Result<Option<Question>, PathFault> {
-    if matches.get_flag("list-targets") {
+    if line.has(TARGETS) {
         return Ok(Some(Question::Targets));
     }
-    if matches.get_flag("list-sources") {
+    if line.has(SOURCES) {
         return Ok(Some(Question::Sources));
     }
-    if let Some(word) = matches.get_str("deps") {
+    if let Some(word) = line.word(DEPS) {
         return Ok(Some(Question::Deps(target(alloc, below, word)?)));
     }
-    match matches.get_str("rdeps") {
-        Some(word) => Ok(Some(Question::Users(
-            target(alloc, below, word)?,
-            matches.get_flag("all"),
-        ))),
+    match line.word(RDEPS) {
+        Some(word) => Ok(Some(Question::Users(target(alloc, below, word)?, line.has(ALL)))),
         None => Ok(None),
     }
 }
 
 /// The words behind these options that name a path.
-pub(crate) fn word_of<'m>(matches: &'m ArgMatches<'_>) -> Option<&'m str> {
-    for id in ["whichdo", "deps", "rdeps"] {
-        if let Some(word) = matches.get_str(id) {
+pub(crate) fn word_of<'a>(line: &Line<'a>) -> Option<&'a str> {
+    for option in [WHICHDO, DEPS, RDEPS] {
+        if let Some(word) = line.word(option) {
             return Some(word);
         }
     }
     None
 }
 
-/// What is done in place of a build, if anything is. Two that say so exclude each other.
-fn command_of(matches: &ArgMatches<'_>) -> Result<Option<&'static str>, Refusal> {
+/// What is done in place of a build by these words, if anything is. Two that say so exclude each other.
+pub(crate) fn first_command(matches: &ArgMatches<'_>) -> Result<Option<&'static str>, Refusal> {
     let mut first = None;
     for option in &COMMANDS {
-        if option.is_used(matches) {
+        if option.is_in(matches) {
             match first {
+                Some(other) if other == CLEAN.1 && option.1 == DEAD.1 => {}
                 Some(other) => return Err(Refusal::Excluded(other, option.1)),
                 None => first = Some(option.1),
             }
@@ -225,29 +246,61 @@ fn takes(command: &str, option: Named) -> bool {
     (command == OOD.1 && option.1 == FORMAT.1) || (command == CLEAN.1 && option.1 == DRY_RUN.1)
 }
 
-/// Refuses options that don't go together: two that exclude each other, or one that another one needs.
-pub(crate) fn check(matches: &ArgMatches<'_>) -> Result<(), Refusal> {
-    let command = command_of(matches)?;
+/// Whether two options are the same.
+fn is_same(one: Named, other: Named) -> bool {
+    one.0 == other.0
+}
+
+/// Whether an option excludes another one that is among these words.
+fn is_excluded(matches: &ArgMatches<'_>, option: Named) -> bool {
+    PAIRS.iter().any(|(one, other)| {
+        (is_same(option, *one) && other.is_in(matches))
+            || (is_same(option, *other) && one.is_in(matches))
+    })
+}
+
+/// Whether an option is one of builds, and these words ask for something in place of a build that doesn't take it.
+fn is_out_of_place(matches: &ArgMatches<'_>, option: Named) -> bool {
+    let is_of_builds = OF_BUILDS.iter().any(|other| is_same(option, *other));
+    is_of_builds
+        && COMMANDS.iter().any(|command| command.is_in(matches) && !takes(command.1, option))
+}
+
+/// Whether an option in the environment doesn't count beside these words: they have one that it excludes, or ask for
+/// something that doesn't take it.
+pub(crate) fn is_overruled(matches: &ArgMatches<'_>, option: Named) -> bool {
+    is_excluded(matches, option) || is_out_of_place(matches, option)
+}
+
+/// Refuses two options that exclude each other, or one without another one that it needs.
+pub(crate) fn check_pairs(matches: &ArgMatches<'_>) -> Result<(), Refusal> {
     for (one, other) in &PAIRS {
-        if one.is_used(matches) && other.is_used(matches) {
+        if one.is_in(matches) && other.is_in(matches) {
             return Err(Refusal::Excluded(one.1, other.1));
         }
     }
-    if matches.get_flag("all") && !matches.contains_id("rdeps") {
+    if ALL.is_in(matches) && !RDEPS.is_in(matches) {
         return Err(Refusal::Alone("--all", "--rdeps"));
     }
-    if matches.get_flag("with-rules") && matches.get_str("format") != Some("dot") {
+    Ok(())
+}
+
+/// Refuses options that don't go together: two that exclude each other, or one that another one needs.
+pub(crate) fn check(line: &Line<'_>) -> Result<(), Refusal> {
+    let command = first_command(&line.own)?;
+    check_pairs(&line.own)?;
+    if line.has_own(WITH_RULES) && line.word(FORMAT) != Some("dot") {
         return Err(Refusal::Alone("--with-rules", "--format dot"));
     }
     let Some(command) = command else {
         return Ok(());
     };
     for option in &OF_BUILDS {
-        if option.is_used(matches) && !takes(command, *option) {
+        if line.has_own(*option) && !takes(command, *option) {
             return Err(Refusal::Excluded(command, option.1));
         }
     }
-    if matches.contains_id("targets") && command != OOD.1 {
+    if line.targets().is_some() && command != OOD.1 && !line.has_own(DEAD) {
         return Err(Refusal::TargetsBeside(command));
     }
     Ok(())

@@ -2,8 +2,8 @@
 
 use crate::actions::BuildOptions;
 use crate::after::Built;
+use crate::found::Found;
 use crate::options::Format;
-use crate::status;
 use crate::status::Fault;
 use redo_bundle::{Plain, write_all};
 use redo_diagnose::diagnoses;
@@ -15,21 +15,10 @@ use redo_page::{Told, page};
 use redo_past::Past;
 use redo_report::Report;
 use redo_rings::rings;
-use redo_tree::Tree;
+use redo_short::short_text;
 use std::alloc::{AllocError, Global};
 use std::io;
 use std::rt::Runtime;
-use std::thread::Threads;
-
-/// The past of the tree that was built.
-fn past_of<H: Runtime + Threads + Sync>(
-    rt: &H,
-    alloc: Global,
-    build: &BuildOptions,
-    tree: &Tree,
-) -> Result<Past, Fault> {
-    Ok(Past::open_by(rt, alloc, build.options.workers, tree.clone()?)?)
-}
 
 /// Why each begun script of a build was begun, in words, by its target.
 fn whys(
@@ -87,25 +76,34 @@ fn as_json(
     json(alloc, past, report, &told)
 }
 
+/// The report of a build in another form than its own.
+fn text_in(
+    alloc: Global,
+    build: &BuildOptions,
+    built: &Built<'_>,
+    found: &Found,
+) -> Result<Vec<u8>, AllocError> {
+    let (report, status) = (built.report, found.status(built));
+    match build.format {
+        Format::Report => Ok(Vec::new(alloc)),
+        Format::Short => short_text(alloc, report),
+        Format::Json => as_json(alloc, build, &found.past, report, status),
+        Format::Dot(with_rules) => dot(alloc, report, with_rules),
+        Format::Html => as_page(alloc, build, &found.past, report, status),
+    }
+}
+
 /// Prints the report of a build, where it is wanted in another form than its own.
-pub(crate) fn print_report<H: Runtime + Threads + Sync>(
+pub(crate) fn print_report<H: Runtime>(
     rt: &H,
     alloc: Global,
     build: &BuildOptions,
     built: &Built<'_>,
+    found: &Option<Found>,
 ) -> Result<(), Fault> {
-    let (report, status) = (built.report, status::of_good(built.good));
-    let text = match build.format {
-        Format::Report => return Ok(()),
-        Format::Json => {
-            let past = past_of(rt, alloc, build, built.tree)?;
-            as_json(alloc, build, &past, report, status)?
-        }
-        Format::Dot(with_rules) => dot(alloc, report, with_rules)?,
-        Format::Html => {
-            let past = past_of(rt, alloc, build, built.tree)?;
-            as_page(alloc, build, &past, report, status)?
-        }
+    let (Some(found), true) = (found, build.format != Format::Report) else {
+        return Ok(());
     };
+    let text = text_in(alloc, build, built, found)?;
     Ok(write_all(&mut Plain::new(io::writer(rt)), &text)?)
 }

@@ -18,7 +18,7 @@ pub(crate) fn list_in(
 ) -> Result<Vec<u8>, AllocError> {
     let status = status::of_good(listed.is_empty());
     match format {
-        Format::Report => text_of(alloc, listed),
+        Format::Report | Format::Short => text_of(alloc, listed),
         Format::Json => list_json(alloc, listed, status),
         Format::Dot(_) => list_dot(alloc, listed, past.book()),
         Format::Html => list_page(alloc, listed, status),

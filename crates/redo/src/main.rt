@@ -8,12 +8,18 @@ ghost use Rattle.std.specs.Prelude.{◌≡◌, false};
 mod above;
 mod actions;
 mod after;
+mod behind;
 mod building;
 mod causes;
 mod cleaning;
 mod commands;
+mod damaged;
+mod dead;
 mod diagnosing;
+mod flags;
 mod formats;
+mod found;
+mod line;
 mod lists;
 mod options;
 mod packing;
@@ -29,6 +35,8 @@ mod voice;
 use actions::{Action, Call};
 use clap::error::ErrorKind;
 use clap::{ArgMatches, Error};
+use commands::VERBOSE;
+use line::Line;
 use options::{Input, Refusal};
 use progress::Progress;
 use redo_bundle::Plain;
@@ -43,7 +51,7 @@ use std::rt::Runtime;
 use std::sync::Wait;
 use std::thread::Threads;
 use std::{env, io};
-use voice::Voice;
+use voice::{Screen, Voice};
 
 /// The size of the buffer of standard output, in bytes.
 const BUFFER_BYTES: usize = 65_536;
@@ -55,7 +63,7 @@ fn main(rt: HostRuntime) -> ExitCode {
         Err(status) => return ExitCode::from(status),
     };
     let mut cause = Cause::new(alloc);
-    let progress = Progress::new(&rt, call.voice.progress);
+    let progress = Progress::new(&rt, call.voice);
     let host = Host {
         rt: &rt,
         alloc,
@@ -66,39 +74,91 @@ fn main(rt: HostRuntime) -> ExitCode {
         Err(fault) => {
             let _shown = eprintln!(rt; "redo: {fault}");
             if call.voice.causes {
-                show_cause(&rt, causes::of_fault(alloc, fault, &cause, &call.action));
+                show_cause(
+                    &rt,
+                    causes::of_fault(&rt, alloc, fault, &cause, &call.action),
+                );
             }
             ExitCode::from(status::of_fault(fault))
         }
     }
 }
 
-/// What the command line asks for. `Err` is the exit status if there is nothing to do: help, the version or a refusal
-/// was shown.
+/// What the command line asks for, with the words in the environment. `Err` is the exit status if there is nothing to
+/// do: help, the version or a refusal was shown.
 fn read_call(rt: &HostRuntime, alloc: Global) -> Result<Call, u8> {
     let words = words(rt, alloc).map_err(|refusal| refuse(rt, refusal))?;
-    let command = options::command(alloc).map_err(|_| refuse(rt, Refusal::Memory))?;
-    let matches = match command.try_get_matches_from(words.as_slice()) {
-        Ok(matches) => matches,
-        Err(error) => return Err(show_parse(rt, &error)),
+    let own = parse(rt, alloc, &words)?;
+    let words = flags::words(rt, alloc).map_err(|refusal| refuse(rt, refusal))?;
+    let flags = if words.len() > 1 {
+        Some(parse_flags(rt, alloc, &words)?)
+    } else {
+        None
     };
-    call_of(rt, alloc, &matches).map_err(|refusal| refuse_call(rt, alloc, refusal, &matches))
+    let line = Line { own, flags };
+    if line.flags.is_some() && line.has(VERBOSE) {
+        show_cause(rt, flags::shown(alloc, &words).map(Some));
+    }
+    call_of(rt, alloc, &line).map_err(|refusal| refuse_call(rt, alloc, refusal, &line))
+}
+
+/// What words say.
+fn parse<'w>(rt: &HostRuntime, alloc: Global, words: &'w [String]) -> Result<ArgMatches<'w>, u8> {
+    let command = options::command(alloc).map_err(|_| refuse(rt, Refusal::Memory))?;
+    match command.try_get_matches_from(words) {
+        Ok(matches) => Ok(matches),
+        Err(error) => Err(show_parse(rt, &error)),
+    }
+}
+
+/// What the words in the environment say. Where they are refused, it is said where they come from.
+fn parse_flags<'w>(
+    rt: &HostRuntime,
+    alloc: Global,
+    words: &'w [String],
+) -> Result<ArgMatches<'w>, u8> {
+    let command = options::command(alloc).map_err(|_| refuse(rt, Refusal::Memory))?;
+    let matches = match command.try_get_matches_from(words) {
+        Ok(matches) => matches,
+        Err(error) => {
+            if error.use_stderr() {
+                show_cause(rt, flags::shown(alloc, words).map(Some));
+            }
+            return Err(show_parse(rt, &error));
+        }
+    };
+    if let Err(refusal) = flags::check(&matches) {
+        show_cause(rt, flags::shown(alloc, words).map(Some));
+        return Err(refuse(rt, refusal));
+    }
+    Ok(matches)
 }
 
 /// What the words ask for, in this place and on this standard error.
-fn call_of(rt: &HostRuntime, alloc: Global, matches: &ArgMatches<'_>) -> Result<Call, Refusal> {
-    options::check(matches)?;
-    let here = above::place_of(rt, alloc, matches)?;
-    let action = options::action_of(alloc, matches, here)?;
-    let voice = voice_of(rt, matches);
+fn call_of(rt: &HostRuntime, alloc: Global, line: &Line<'_>) -> Result<Call, Refusal> {
+    options::check(line)?;
+    let here = above::place_of(rt, alloc, line)?;
+    let action = options::action_of(alloc, line, here)?;
+    let voice = voice_of(rt, line);
     Ok(Call { action, voice })
 }
 
+/// Whether a variable of the environment is there, and not empty.
+fn is_set(rt: &HostRuntime, name: &str) -> bool {
+    env::var(rt, name).is_ok_and(|value| !value.is_empty())
+}
+
 /// How much is said on this standard error.
-fn voice_of(rt: &HostRuntime, matches: &ArgMatches<'_>) -> Voice {
-    // By common use, any value but an empty one says that no colours are wanted.
-    let plain = env::var(rt, "NO_COLOR").is_ok_and(|value| !value.is_empty());
-    Voice::of(matches, rt.stderr().is_terminal(), plain)
+fn voice_of(rt: &HostRuntime, line: &Line<'_>) -> Voice {
+    // By common use, any value but an empty one says that no colours are wanted, and a terminal that isn't named, or is
+    // called dumb, takes no escape sequences.
+    let is_dumb = env::var(rt, "TERM").is_ok_and(|value| value.as_str() == "dumb");
+    let screen = Screen {
+        is_terminal: rt.stderr().is_terminal(),
+        is_able: is_set(rt, "TERM") && !is_dumb,
+        is_colourful: !is_set(rt, "NO_COLOR"),
+    };
+    Voice::of(line, screen)
 }
 
 /// Shows what the parse ended in: help or the version on standard output, a refusal on standard error. Returns the exit
@@ -127,24 +187,26 @@ fn refuse(rt: &HostRuntime, refusal: Refusal) -> u8 {
 }
 
 /// Shows why words that were read are refused, and the word where causes are shown. Returns the exit status.
-fn refuse_call(rt: &HostRuntime, alloc: Global, refusal: Refusal, matches: &ArgMatches<'_>) -> u8 {
+fn refuse_call(rt: &HostRuntime, alloc: Global, refusal: Refusal, line: &Line<'_>) -> u8 {
     let status = refuse(rt, refusal);
-    if voice_of(rt, matches).causes {
-        show_cause(rt, cause_of(rt, alloc, refusal, matches));
+    if voice_of(rt, line).causes {
+        show_cause(rt, cause_of(rt, alloc, refusal, line));
     }
     status
 }
 
 /// Why words that were read are refused, if more is known than the refusal says.
-fn cause_of(
-    rt: &HostRuntime,
-    alloc: Global,
-    refusal: Refusal,
-    matches: &ArgMatches<'_>,
-) -> causes::Words {
+fn cause_of(rt: &HostRuntime, alloc: Global, refusal: Refusal, line: &Line<'_>) -> causes::Words {
     match refusal {
-        Refusal::BadTarget => match above::place_of(rt, alloc, matches) {
-            Ok(here) => causes::of_target(alloc, options::bad_target(alloc, matches, &here.below)),
+        Refusal::BadTarget => match above::place_of(rt, alloc, line) {
+            Ok(here) => {
+                let bad = options::bad_target(alloc, line, &here.below);
+                let instead = match bad {
+                    Some((word, why)) => above::instead_of(rt, alloc, &here, word, why)?,
+                    None => None,
+                };
+                causes::of_target(alloc, bad, instead)
+            }
             Err(_) => Ok(None),
         },
         Refusal::NoKeepGoing => causes::of_no_keep_going(alloc),
@@ -175,9 +237,11 @@ where
         Action::Whichdo(target, input) => list(host, target, input, cause),
         Action::Ask(query) => queries::ask(rt, alloc, query, cause),
         Action::OutOfDate(listing) => queries::list_out_of_date(rt, alloc, listing, cause),
+        Action::Shadowed(shadows) => queries::list_shadowed(rt, alloc, shadows, cause),
         Action::Pack(packing) => packing::pack_dir(rt, alloc, packing, cause),
         Action::Unpack(dir) => unpacking::unpack_into(rt, alloc, dir, cause),
         Action::Clean(cleaning) => cleaning::clean_dir(rt, alloc, cleaning, cause),
+        Action::Dead(dead) => dead::tell_dead(host, dead, cause),
     }
 }
 

@@ -3,11 +3,16 @@
 ghost use Rattle.std.specs.Prelude.{◌≤◌, ◌<◌};
 
 use crate::above::Here;
-use crate::actions::{Action, BuildOptions, Cleaning, Listing, Packing, Query};
+use crate::actions::{Action, BuildOptions, Cleaning, Dead, Listing, Packing, Query, Shadows};
 use crate::commands;
+use crate::commands::{
+    BUNDLE, CLEAN, DEAD, DIRECTORY, DRY_RUN, EXPLAIN, FORMAT, KEEP_GOING, OOD, PACK, SHADOWED,
+    STRICT, SYNC, TOP, UNPACK, WHICHDO, WITH_RULES,
+};
+use crate::line::Line;
 use crate::version::VERSION;
 use clap::builder::ValueParser;
-use clap::{Arg, ArgAction, ArgMatches, Command, value_parser};
+use clap::{Arg, ArgAction, Command, value_parser};
 use redo_path::{Path, PathFault, resolve};
 use redo_run::Options;
 use redo_step::Limits;
@@ -22,7 +27,7 @@ pub(crate) const TARGETS: u32 = 65_536;
 const FILE_BYTES: u32 = 16_777_216;
 
 /// The forms in which a report or a list is printed.
-static FORMATS: [&str; 4] = ["report", "json", "dot", "html"];
+static FORMATS: [&str; 5] = ["report", "short", "json", "dot", "html"];
 
 /// The most scripts that may run side by side.
 const MOST_JOBS: usize = 64;
@@ -52,6 +57,8 @@ pub(crate) enum Input {
 pub(crate) enum Format {
     /// Its own.
     Report,
+    /// Few lines: what was built or failed, and how much. A list is as it is in its own.
+    Short,
     /// An object of JSON, without files.
     Json,
     /// A graph for Graphviz; if `true`, with the rules.
@@ -71,6 +78,8 @@ pub(crate) enum Refusal {
     Alone(&'static str, &'static str),
     #[error("{0} takes no targets")]
     TargetsBeside(&'static str),
+    #[error("REDOFLAGS isn't UTF-8")]
+    FlagsNoText,
     #[error("bad target")]
     BadTarget,
     #[error("no book here or above")]
@@ -181,7 +190,7 @@ fn report_format<'a>(alloc: Global) -> Arg<'a> {
         .value_name("FORMAT")
         .value_parser(ValueParser::Names(&FORMATS))
         .hide_possible_values(true)
-        .help("Print the report or list as report, json, dot or html")
+        .help("Print as report, short, json, dot or html")
 }
 
 fn with_rules<'a>(alloc: Global) -> Arg<'a> {
@@ -210,7 +219,7 @@ fn verbose<'a>(alloc: Global) -> Arg<'a> {
         .short('v')
         .long("verbose")
         .action(ArgAction::Count)
-        .help("Add causes to messages, and notes on stale files")
+        .help("Say why targets failed, causes of messages, and notes")
 }
 
 fn quiet<'a>(alloc: Global) -> Arg<'a> {
@@ -234,6 +243,9 @@ pub(crate) fn command<'a>(alloc: Global) -> Result<Command<'a>, AllocError> {
         .version(VERSION)
         .about("Builds targets by their .do scripts, in parallel")
         .override_usage("redo -k [OPTIONS] [TARGETS]...")
+        .after_help(
+            "Options in REDOFLAGS, as -k -j 4, count where the command line doesn't say\notherwise",
+        )
         .arg(jobs(alloc))?
         .arg(keep_going(alloc))?
         .arg(bundle(alloc))?
@@ -254,67 +266,76 @@ pub(crate) fn command<'a>(alloc: Global) -> Result<Command<'a>, AllocError> {
 
 /// Refuses words that ask for nothing that could be done. Of several refusals it returns the first in the order of the
 /// enum.
-pub(crate) fn check(matches: &ArgMatches<'_>) -> Result<(), Refusal> {
-    if !commands::is_given(matches) && matches.get_count("keep-going") == 0 {
+pub(crate) fn check(line: &Line<'_>) -> Result<(), Refusal> {
+    if !commands::is_given(line) && !line.has(KEEP_GOING) {
         return Err(Refusal::NoKeepGoing);
     }
-    commands::check(matches)
+    commands::check(line)
 }
 
 /// What the words ask for, read in this place. They were checked.
-pub(crate) fn action_of(
-    alloc: Global,
-    matches: &ArgMatches<'_>,
-    here: Here,
-) -> Result<Action, Refusal> {
+pub(crate) fn action_of(alloc: Global, line: &Line<'_>, here: Here) -> Result<Action, Refusal> {
     let Here { top, below } = here;
-    if matches.get_flag("pack") {
+    if line.has(PACK) {
         return Ok(Action::Pack(Packing {
             dir: top,
-            workers: workers(matches),
+            workers: workers(line),
         }));
     }
-    if matches.get_flag("unpack") {
+    if line.has(UNPACK) {
         return Ok(Action::Unpack(top));
     }
-    if matches.get_flag("clean") {
+    if line.has(CLEAN) && !line.has(DEAD) {
         return Ok(Action::Clean(Cleaning {
             dir: top,
-            workers: workers(matches),
-            dry_run: matches.get_flag("dry-run"),
+            workers: workers(line),
+            dry_run: line.has(DRY_RUN),
         }));
     }
-    let input = if matches.get_flag("bundle") {
+    let input = if line.has(BUNDLE) {
         Input::Bundle
     } else {
         Input::Directory(top)
     };
-    if let Some(word) = matches.get_str("whichdo") {
-        return Ok(Action::Whichdo(target(alloc, &below, word)?, input));
-    }
-    if matches.get_flag("ood") {
-        return Ok(Action::OutOfDate(Listing {
-            targets: named(alloc, matches, &below)?,
-            input,
-            workers: workers(matches),
-            format: format_of(matches),
+    if line.has(DEAD) {
+        return Ok(Action::Dead(Dead {
+            build: tried_build_of(alloc, line, input, &below)?,
+            cleaned: line.has(CLEAN),
+            dry_run: line.has(DRY_RUN),
         }));
     }
-    match commands::question_of(alloc, matches, &below)? {
+    if let Some(word) = line.word(WHICHDO) {
+        return Ok(Action::Whichdo(target(alloc, &below, word)?, input));
+    }
+    if line.has(OOD) {
+        return Ok(Action::OutOfDate(Listing {
+            targets: named(alloc, line, &below)?,
+            input,
+            workers: workers(line),
+            format: format_of(line),
+        }));
+    }
+    if line.has(SHADOWED) {
+        return Ok(Action::Shadowed(Shadows {
+            input,
+            workers: workers(line),
+        }));
+    }
+    match commands::question_of(alloc, line, &below)? {
         Some(question) => Ok(Action::Ask(Query {
             question,
             input,
-            workers: workers(matches),
+            workers: workers(line),
         })),
-        None => Ok(Action::Build(build_of(alloc, matches, input, &below)?)),
+        None => Ok(Action::Build(build_of(alloc, line, input, &below)?)),
     }
 }
 
 /// Whether a build stores its files, and whether it waits for the disk.
-fn storing_of(matches: &ArgMatches<'_>) -> Storing {
-    if matches.get_flag("dry-run") {
+fn storing_of(line: &Line<'_>) -> Storing {
+    if line.has(DRY_RUN) {
         Storing::Nothing
-    } else if matches.get_flag("sync") {
+    } else if line.has(SYNC) {
         Storing::Synced
     } else {
         Storing::Plain
@@ -322,10 +343,11 @@ fn storing_of(matches: &ArgMatches<'_>) -> Storing {
 }
 
 /// In which form the report or the list is printed.
-fn format_of(matches: &ArgMatches<'_>) -> Format {
-    match matches.get_str("format") {
+fn format_of(line: &Line<'_>) -> Format {
+    match line.word(FORMAT) {
+        Some("short") => Format::Short,
         Some("json") => Format::Json,
-        Some("dot") => Format::Dot(matches.get_flag("with-rules")),
+        Some("dot") => Format::Dot(line.has(WITH_RULES)),
         Some("html") => Format::Html,
         _ => Format::Report,
     }
@@ -334,13 +356,13 @@ fn format_of(matches: &ArgMatches<'_>) -> Format {
 /// The first word that names no target, and why.
 pub(crate) fn bad_target<'m>(
     alloc: Global,
-    matches: &'m ArgMatches<'_>,
+    line: &Line<'m>,
     below: &Path,
 ) -> Option<(&'m str, PathFault)> {
-    if let Some(word) = commands::word_of(matches) {
+    if let Some(word) = commands::word_of(line) {
         return fault_of(alloc, below, word);
     }
-    let words = matches.get_strs("targets")?;
+    let words = line.targets()?;
     words.iter().find_map(|word| fault_of(alloc, below, word))
 }
 
@@ -358,10 +380,13 @@ pub(crate) fn target(alloc: Global, below: &Path, word: &str) -> Result<Path, Pa
 }
 
 /// How many threads may work side by side.
-fn workers(matches: &ArgMatches<'_>) -> usize
+fn workers(line: &Line<'_>) -> usize
     ensures some { 0 < result }
     ensures few { result ≤ 64 }
 {
+    let Some(matches) = line.jobs() else {
+        return 1;
+    };
     match matches.get_many::<usize>("jobs") {
         Some(jobs) => match jobs.last() {
             Some(Ok(jobs)) => jobs.clamp(1, MOST_JOBS),
@@ -372,9 +397,9 @@ fn workers(matches: &ArgMatches<'_>) -> usize
 }
 
 /// The targets that are named.
-fn named(alloc: Global, matches: &ArgMatches<'_>, below: &Path) -> Result<Vec<Path>, Refusal> {
+fn named(alloc: Global, line: &Line<'_>, below: &Path) -> Result<Vec<Path>, Refusal> {
     let mut paths = Vec::new(alloc);
-    if let Some(words) = matches.get_strs("targets") {
+    if let Some(words) = line.targets() {
         for word in words {
             paths.push(target(alloc, below, word)?)?;
         }
@@ -383,23 +408,61 @@ fn named(alloc: Global, matches: &ArgMatches<'_>, below: &Path) -> Result<Vec<Pa
 }
 
 /// The targets that are requested: `all`, where none is named.
-fn requested(alloc: Global, matches: &ArgMatches<'_>, below: &Path) -> Result<Vec<Path>, Refusal> {
-    let mut paths = named(alloc, matches, below)?;
+fn requested(alloc: Global, line: &Line<'_>, below: &Path) -> Result<Vec<Path>, Refusal> {
+    let mut paths = named(alloc, line, below)?;
     if paths.is_empty() {
         paths.push(target(alloc, &Path::root(), "all")?)?;
     }
     Ok(paths)
 }
 
-/// A build as the options want it.
-fn build_of(
+/// What leads from where the user is to the top, with a slash behind it; nothing if that is where the user is.
+fn to_top(alloc: Global, line: &Line<'_>, below: &Path) -> Result<Vec<u8>, AllocError> {
+    let mut way = Vec::new(alloc);
+    if line.has(TOP) {
+        for name in below.text().split(|byte| *byte == b'/') {
+            if !name.is_empty() {
+                way.extend_from_slice(b"../")?;
+            }
+        }
+        return Ok(way);
+    }
+    match line.word(DIRECTORY) {
+        Some(dir) if dir != "." && !dir.is_empty() => {
+            way.extend_from_slice(dir.as_bytes())?;
+            if !dir.ends_with('/') {
+                way.push(b'/')?;
+            }
+            Ok(way)
+        }
+        _ => Ok(way),
+    }
+}
+
+/// A build of what is named, which is tried out.
+fn tried_build_of(
     alloc: Global,
-    matches: &ArgMatches<'_>,
+    line: &Line<'_>,
     input: Input,
     below: &Path,
 ) -> Result<BuildOptions, Refusal> {
-    let targets = requested(alloc, matches, below)?;
-    let workers = workers(matches);
+    let build = build_of(alloc, line, input, below)?;
+    Ok(BuildOptions {
+        storing: Storing::Nothing,
+        format: Format::Report,
+        ..build
+    })
+}
+
+/// A build as the options want it.
+fn build_of(
+    alloc: Global,
+    line: &Line<'_>,
+    input: Input,
+    below: &Path,
+) -> Result<BuildOptions, Refusal> {
+    let targets = requested(alloc, line, below)?;
+    let workers = workers(line);
     let Some(limits) = Limits::new(TARGETS, FILE_BYTES) else {
         unreachable!()
     };
@@ -410,9 +473,11 @@ fn build_of(
             limits,
         },
         input,
-        storing: storing_of(matches),
-        format: format_of(matches),
-        explained: matches.get_flag("explain"),
-        strict: matches.get_flag("strict"),
+        storing: storing_of(line),
+        format: format_of(line),
+        explained: line.has(EXPLAIN),
+        strict: line.has(STRICT),
+        to_top: to_top(alloc, line, below)?,
+        below: below.clone()?,
     })
 }

@@ -1,5 +1,6 @@
 //! The line that shows how far a build is.
 
+use crate::voice::Voice;
 use bstr::BStr;
 use redo_core::board::Board;
 use redo_path::Path;
@@ -22,6 +23,8 @@ const MOST_PASSED: u64 = 64;
 #[derive(Drop)]
 pub(crate) struct Progress<'a> {
     rt: &'a HostRuntime,
+    /// Whether a line is shown.
+    is_shown: bool,
     /// When the build began; none if nothing is to be shown.
     began: Option<Instant>,
     /// How many events are passed over between two looks at the clock. A look may cost more than a short script.
@@ -36,14 +39,15 @@ pub(crate) struct Progress<'a> {
 
 impl<'a> Progress<'a> {
     /// The progress of a build that begins now.
-    pub(crate) fn new(rt: &'a HostRuntime, is_shown: bool) -> Progress<'a> {
-        let began = if is_shown {
+    pub(crate) fn new(rt: &'a HostRuntime, voice: Voice) -> Progress<'a> {
+        let began = if voice.summary {
             Instant::now(rt).ok()
         } else {
             None
         };
         Progress {
             rt,
+            is_shown: voice.progress,
             began,
             stride: AtomicU64::new(1),
             passes: AtomicU64::new(0),
@@ -86,6 +90,7 @@ impl<'a> Progress<'a> {
     /// Clears the line, if there is one.
     pub(crate) fn clear(&self) {
         if self.shown.load(Relaxed) != 0 {
+            self.shown.store(0, Relaxed);
             let _shown = eprint!(self.rt; "\r\x1b[K");
         }
     }
@@ -94,7 +99,7 @@ impl<'a> Progress<'a> {
 impl Observer for Progress<'_> {
     /// Writes the line over the one before. The terminal cuts it at its width.
     fn given_out(&self, board: &Board, target: &Path, _turn: u64) {
-        if self.began.is_none() {
+        if !self.is_shown {
             return;
         }
         let Some(now) = self.look() else {

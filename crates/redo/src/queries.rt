@@ -1,6 +1,6 @@
 //! Questions to the book of the last run.
 
-use crate::actions::{Listing, Query};
+use crate::actions::{Listing, Query, Shadows};
 use crate::lists::list_in;
 use crate::note_passed;
 use crate::options::Input;
@@ -9,6 +9,7 @@ use bstr::BStr;
 use redo_bundle::{Plain, read_bundle_by_line, write_all};
 use redo_dir::SystemDir;
 use redo_mend::mend;
+use redo_notes::{shadowed, text_of_shadowed};
 use redo_ood::out_of_date;
 use redo_past::Past;
 use redo_path::Path;
@@ -93,6 +94,25 @@ where
     write_all(&mut Plain::new(io::writer(rt)), &text)?;
     note_passed(rt, passed);
     Ok(listed.is_empty())
+}
+
+/// Prints the sources that have a rule, which no build makes.
+pub(crate) fn list_shadowed<H: Runtime + Threads + Sync>(
+    rt: &H,
+    alloc: Global,
+    shadows: &Shadows,
+    cause: &mut Cause,
+) -> Result<bool, Fault>
+where
+    H::File: Send,
+    H::Dir: Send,
+{
+    let (tree, passed) = load(rt, alloc, &shadows.input, shadows.workers, cause)?;
+    let past = Past::open_by(rt, alloc, shadows.workers, tree)?;
+    let text = text_of_shadowed(alloc, &shadowed(alloc, &past)?)?;
+    write_all(&mut Plain::new(io::writer(rt)), &text)?;
+    note_passed(rt, passed);
+    Ok(true)
 }
 
 /// Says that the book doesn't know a path, and which name is the nearest that it knows.

@@ -65,6 +65,8 @@ pub(crate) enum Fault {
     Unstored,
     /// A file can't be removed.
     Unremoved,
+    /// A target isn't built, so what it needs isn't known.
+    Unbuilt,
     /// Standard output can't be written.
     Output,
     Memory,
@@ -153,6 +155,7 @@ pub(crate) fn of_fault(fault: Fault) -> u8 {
         Fault::Bundle(_) | Fault::Directory | Fault::Book(_) => INPUT,
         Fault::Busy | Fault::NoBook | Fault::NotEmpty => INPUT,
         Fault::TooMany => TOO_MANY,
+        Fault::Unbuilt => FAILED,
         Fault::Journal | Fault::Left | Fault::Unstored | Fault::Unremoved => OUTPUT,
         Fault::Output => OUTPUT,
         Fault::Memory => MEMORY,
@@ -177,6 +180,7 @@ impl fmt::Display for Fault {
             Fault::NoBook => write!(f, "no book here"),
             Fault::NotEmpty => write!(f, "directory not empty"),
             Fault::Unremoved => write!(f, "clean failed"),
+            Fault::Unbuilt => write!(f, "a target fails, so what it needs isn't known"),
             Fault::Journal => write!(f, "journal not writable"),
             Fault::Left => write!(f, "recovery failed"),
             Fault::Unstored | Fault::Output => write!(f, "output failed"),

@@ -1,8 +1,20 @@
 //! How much is said on standard error.
 
+use crate::commands::{QUIET, VERBOSE};
+use crate::line::Line;
 use bstr::{BStr, ByteSlice};
-use clap::ArgMatches;
 use std::rt::Runtime;
+
+/// What standard error is.
+#[derive(Clone, Copy, Debug, PartialEq, Eq, Drop)]
+pub(crate) struct Screen {
+    /// It is a terminal.
+    pub(crate) is_terminal: bool,
+    /// It takes escape sequences.
+    pub(crate) is_able: bool,
+    /// Colours are wanted there.
+    pub(crate) is_colourful: bool,
+}
 
 /// How much is said on standard error. Messages are said in any case.
 #[derive(Clone, Copy, Debug, PartialEq, Eq, Drop)]
@@ -11,23 +23,25 @@ pub(crate) struct Voice {
     pub(crate) causes: bool,
     /// What is wrong with failed targets is told, and what is stale is noted.
     pub(crate) notes: bool,
-    /// The progress of a build is shown, and what it came to: standard error is a terminal.
+    /// It is told what a build came to: standard error is a terminal.
+    pub(crate) summary: bool,
+    /// The progress of a build is shown, in a line that is written over.
     pub(crate) progress: bool,
     /// Notes are coloured.
     pub(crate) colour: bool,
 }
 
 impl Voice {
-    /// How much is said as the options want it. `terminal` tells whether standard error is one, and `plain` whether colours
-    /// are unwanted.
-    pub(crate) fn of(matches: &ArgMatches<'_>, terminal: bool, plain: bool) -> Voice {
-        let verbose = matches.get_count("verbose") != 0;
-        let quiet = matches.get_count("quiet") != 0;
+    /// How much is said as the options want it.
+    pub(crate) fn of(line: &Line<'_>, screen: Screen) -> Voice {
+        let verbose = line.has(VERBOSE);
+        let told = screen.is_terminal && !line.has(QUIET);
         Voice {
-            causes: verbose || (terminal && !quiet),
-            notes: verbose || (terminal && !quiet),
-            progress: terminal && !quiet,
-            colour: terminal && !plain,
+            causes: verbose || told,
+            notes: verbose || told,
+            summary: told,
+            progress: told && screen.is_able,
+            colour: screen.is_terminal && screen.is_able && screen.is_colourful,
         }
     }
 
@@ -42,6 +56,7 @@ impl Voice {
             };
         }
     }
+
     /// Says what is wrong with failed targets. A line of a script, which is indented, isn't coloured.
     pub(crate) fn diagnose<H: Runtime>(self, rt: &H, text: &[u8]) {
         for line in text.lines() {

@@ -5,6 +5,8 @@ use redo_path::{Path, PathFault, resolve};
 use redo_record::{Outcome, Why};
 use redo_step::Answers;
 use redo_tree::Tree;
+use redo_which::Found;
+use redo_which::lookup::find;
 use std::alloc::{AllocError, Global};
 
 /// The command that ended a script: its name, its words as they are written, and what the word to blame stood for.
@@ -61,8 +63,42 @@ fn of_outside(alloc: Global, blamed: &Blamed<'_, '_, '_>) -> Result<Said, AllocE
     Said::of(alloc, blamed.value, message, help)
 }
 
-/// What is said of a path that the script hasn't declared.
-fn of_undeclared(alloc: Global, blamed: &Blamed<'_, '_, '_>) -> Result<Said, AllocError> {
+/// Whether a word was meant for an option, of which commands have none.
+fn is_option(blamed: &Blamed<'_, '_, '_>) -> bool {
+    blamed.value.starts_with(b"-") && blamed.value.len() > 1
+}
+
+/// Whether redo-ifchange of a path would fail, as it is no source and no rule makes it.
+fn cannot_be_had(
+    alloc: Global,
+    tree: &Tree,
+    blamed: &Blamed<'_, '_, '_>,
+) -> Result<bool, AllocError> {
+    match resolve(alloc, blamed.dir, blamed.value) {
+        Ok(path) => match find(alloc, tree, &path)? {
+            Found::NoRule { .. } | Found::NoDirectory => Ok(true),
+            Found::Source | Found::Directory | Found::Rule(_) => Ok(false),
+        },
+        Err(_) => Ok(false),
+    }
+}
+
+/// What is said of a path that the script hasn't declared. `test -f` asks for one that may be missing.
+fn of_undeclared(
+    alloc: Global,
+    tree: &Tree,
+    blamed: &Blamed<'_, '_, '_>,
+) -> Result<Said, AllocError> {
+    if is_option(blamed) {
+        let help = b"commands take no options; leave it out";
+        return Said::of(alloc, blamed.value, b" is read as a path", help);
+    }
+    if blamed.command == b"test".as_slice() && cannot_be_had(alloc, tree, blamed)? {
+        let help =
+            b"it isn't there, and no rule makes it: for a file that may be missing write a rule, which needn't print \
+            anything, or say redo-ifcreate in a branch where it has to be missing";
+        return Said::of(alloc, blamed.value, b" isn't declared", help);
+    }
     let mut said = Said::of(
         alloc,
         blamed.value,
@@ -169,7 +205,7 @@ pub(crate) fn of_end<A: Answers>(
         Why::Exit(status) => of_exit(alloc, answers, status, blamed)?,
         Why::Unquoted(_) => of_unquoted(alloc, blamed)?,
         Why::Outside(_) => of_outside(alloc, blamed)?,
-        Why::Undeclared(_) => of_undeclared(alloc, blamed)?,
+        Why::Undeclared(_) => of_undeclared(alloc, tree, blamed)?,
         Why::Exists(_) => of_existing(alloc, tree, blamed)?,
         Why::Buildable(_) => Said::of(alloc, blamed.value, b" has a rule", CHANGE)?,
         Why::Direct(_) => {

@@ -1,6 +1,7 @@
 //! Bytes as a reader may see them: characters as they are, but hidden ones and what isn't UTF-8 as `\xNN` for each byte.
 
-use std::alloc::AllocError;
+use bstr::ByteSlice;
+use std::alloc::{AllocError, Global};
 
 const DIGITS: &[u8] = b"0123456789abcdef";
 
@@ -41,6 +42,16 @@ pub(crate) fn push_shown(text: &mut Vec<u8>, bytes: &[u8]) -> Result<(), AllocEr
         push_escaped(text, chunk.invalid())?;
     }
     Ok(())
+}
+
+/// The lines of a text as a reader may see them.
+pub fn shown_lines(alloc: Global, text: &[u8]) -> Result<Vec<u8>, AllocError> {
+    let mut shown = Vec::with_capacity(alloc, text.len())?;
+    for line in text.lines() {
+        push_shown(&mut shown, line)?;
+        shown.push(b'\n')?;
+    }
+    Ok(shown)
 }
 
 /// Whether a byte begins a character, and so takes a column.

@@ -1,6 +1,7 @@
 //! Diagnoses and rings as lines.
 
-use crate::diagnosis::{Diagnosis, Place};
+use crate::diagnosis::{Diagnosed, Place};
+use crate::groups::{Group, groups_of};
 use crate::shown::{push_shown, takes_column, width};
 use redo_path::Path;
 use redo_rings::Ring;
@@ -84,9 +85,41 @@ fn push_excerpt(alloc: Global, text: &mut Vec<u8>, place: &Place) -> Result<(), 
     Ok(())
 }
 
+/// From where places are read: by them editors open files.
+#[derive(Clone, Copy)]
+pub struct Stand<'a> {
+    /// What leads from there to the top: nothing, or a path that ends in a slash.
+    pub to_top: &'a [u8],
+    /// The directory in which the reader is, from the top, if that is below it.
+    pub below: &'a Path,
+}
+
+impl Stand<'_> {
+    /// What is left of a path from the top behind the reader's own directory, if it is there.
+    fn inside<'p>(&self, path: &'p Path) -> Option<&'p [u8]> {
+        if self.below.text().is_empty() {
+            return None;
+        }
+        path.text()
+            .strip_prefix(self.below.text())?
+            .strip_prefix(b"/".as_slice())
+    }
+}
+
 /// Adds a place's file, line and column.
-fn push_place(alloc: Global, text: &mut Vec<u8>, place: &Place) -> Result<(), AllocError> {
-    push_shown(text, place.file.text())?;
+fn push_place(
+    alloc: Global,
+    text: &mut Vec<u8>,
+    stand: &Stand<'_>,
+    place: &Place,
+) -> Result<(), AllocError> {
+    match stand.inside(&place.file) {
+        Some(path) => push_shown(text, path)?,
+        None => {
+            push_shown(text, stand.to_top)?;
+            push_shown(text, place.file.text())?;
+        }
+    }
     let words = format!(in alloc; ":{}:{}: ", place.line, place.column)?;
     text.extend_from_slice(words.as_bytes())
 }
@@ -110,24 +143,37 @@ fn push_target(text: &mut Vec<u8>, target: &Path) -> Result<(), AllocError> {
     push_shown(text, target.text())
 }
 
-/// Adds the lines of a diagnosis: its place, its target, what is wrong and what to do; below them the line of the
-/// script, with a mark.
+/// Adds how many other targets have the same fault, if any.
+fn push_others(alloc: Global, text: &mut Vec<u8>, others: usize) -> Result<(), AllocError> {
+    let words = match others {
+        0 => return Ok(()),
+        1 => format!(in alloc; " and 1 more target")?,
+        _ => format!(in alloc; " and {others} more targets")?,
+    };
+    text.extend_from_slice(words.as_bytes())
+}
+
+/// Adds the lines of a diagnosis: its place, its target, and how many others it concerns, what is wrong and what to do;
+/// below them the line of the script, with a mark.
 fn push_diagnosis(
     alloc: Global,
     text: &mut Vec<u8>,
-    diagnosis: &Diagnosis,
+    stand: &Stand<'_>,
+    group: &Group<'_>,
 ) -> Result<(), AllocError> {
+    let diagnosis = group.first;
     if let Some(place) = &diagnosis.place {
-        push_place(alloc, text, place)?;
+        push_place(alloc, text, stand, place)?;
     }
     push_target(text, &diagnosis.target)?;
+    push_others(alloc, text, group.others)?;
     text.extend_from_slice(b": ")?;
     text.extend_from_slice(&diagnosis.message)?;
     if !diagnosis.help.is_empty() {
         text.extend_from_slice(b"; ")?;
         text.extend_from_slice(&diagnosis.help)?;
     }
-    push_waiting(alloc, text, diagnosis.waiting)?;
+    push_waiting(alloc, text, group.waiting)?;
     text.push(b'\n')?;
     match &diagnosis.place {
         Some(place) if place.length > 0 => push_excerpt(alloc, text, place),
@@ -135,19 +181,35 @@ fn push_diagnosis(
     }
 }
 
-/// The lines of some diagnoses, and how many more there are.
-pub fn text_of(alloc: Global, diagnoses: &[Diagnosis], more: usize) -> Result<Vec<u8>, AllocError> {
+/// Adds how many more targets failed, if any.
+fn push_more(alloc: Global, text: &mut Vec<u8>, more: usize) -> Result<(), AllocError> {
+    let words = match more {
+        0 => return Ok(()),
+        1 => format!(in alloc; "and 1 more target failed\n")?,
+        _ => format!(in alloc; "and {more} more targets failed\n")?,
+    };
+    text.extend_from_slice(words.as_bytes())
+}
+
+/// The lines of the first `most` faults of some diagnoses, as they are read from a directory, and how many more targets
+/// failed. A fault of a rule that several targets share is told once.
+pub fn text_of(
+    alloc: Global,
+    stand: &Stand<'_>,
+    diagnosed: &Diagnosed,
+    most: usize,
+) -> Result<Vec<u8>, AllocError> {
+    let groups = groups_of(alloc, &diagnosed.diagnoses)?;
     let mut text = Vec::new(alloc);
-    for diagnosis in diagnoses {
-        push_diagnosis(alloc, &mut text, diagnosis)?;
+    let mut more = diagnosed.more;
+    for (number, group) in groups.iter().enumerate() {
+        if number < most {
+            push_diagnosis(alloc, &mut text, stand, group)?;
+        } else {
+            more = more.saturating_add(group.others).saturating_add(1);
+        }
     }
-    if more > 0 {
-        let words = match more {
-            1 => format!(in alloc; "and 1 more target failed\n")?,
-            _ => format!(in alloc; "and {more} more targets failed\n")?,
-        };
-        text.extend_from_slice(words.as_bytes())?;
-    }
+    push_more(alloc, &mut text, more)?;
     Ok(text)
 }
 

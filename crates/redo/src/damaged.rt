@@ -1,0 +1,44 @@
+//! How a book is damaged that is refused.
+
+use bstr::ByteSlice;
+use std::alloc::Global;
+use std::fs;
+use std::path::Path as SystemPath;
+use std::rt::Runtime;
+
+/// What is said of a book that was changed otherwise.
+const OTHERWISE: &str =
+    "the file .redo-book is not as a run leaves it; after a merge take one side's whole, as by \
+    git checkout --ours .redo-book; without it each file that was built counts as yours";
+
+/// Whether a text ends before this line does.
+fn ends_before(text: &[u8], line: u64) -> bool {
+    let whole = text.iter().filter(|byte| **byte == b'\n').count() as u64;
+    whole < line
+}
+
+/// What is said of a book with this text, in which this line is the first at fault.
+fn words_for(text: &[u8], line: u64) -> &'static str {
+    if text.is_empty() {
+        "the file .redo-book is empty: get it back, or remove it; then each file that was built counts as yours"
+    } else if text.contains_str(b"\r\n") {
+        "the file .redo-book has Windows line ends: give it Unix line ends again, in git by the attribute -text"
+    } else if text.contains_str(b"<<<<<<<") || text.contains_str(b">>>>>>>") {
+        OTHERWISE
+    } else if ends_before(text, line) {
+        "the file .redo-book is cut off: get it back, or remove it; then each file that was built counts as yours"
+    } else {
+        OTHERWISE
+    }
+}
+
+/// What is said of the book of a directory, in which this line is the first at fault.
+pub(crate) fn words_of<H: Runtime>(rt: &H, alloc: Global, dir: &str, line: u64) -> &'static str {
+    let Ok(place) = SystemPath::new(dir).join(alloc, ".redo-book") else {
+        return OTHERWISE;
+    };
+    match fs::read(rt, place.as_path()) {
+        Ok(text) => words_for(&text, line),
+        Err(_) => OTHERWISE,
+    }
+}

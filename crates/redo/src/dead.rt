@@ -1,0 +1,122 @@
+//! The files that builds left and that a build needs no more.
+
+use crate::actions::{BuildOptions, Dead};
+use crate::building::{Run, build_and_write};
+use crate::cleaning::{clean_by_plan, print};
+use crate::options::Input;
+use crate::progress::Progress;
+use crate::status::Fault;
+use crate::{lock, note_passed};
+use redo_clean::{CleanPlan, planned_text};
+use redo_dead::{dead_plan, dead_text};
+use redo_dir::{Lockable, SystemDir};
+use redo_past::Past;
+use redo_report::Report;
+use redo_run::{Cause, Exit, Host};
+use redo_tree::Tree;
+use std::alloc::Global;
+use std::io;
+use std::rt::Runtime;
+use std::sync::Wait;
+use std::thread::Threads;
+
+/// What a build came to that was tried out.
+#[derive(Drop)]
+struct Tried {
+    /// The clean of what it doesn't need.
+    plan: CleanPlan,
+    /// How many names were passed over.
+    passed: u64,
+}
+
+/// The clean of what a build doesn't need that came to this report. Where a target isn't built, what it needs isn't known.
+fn plan_by<H: Runtime + Threads + Sync>(
+    rt: &H,
+    alloc: Global,
+    build: &BuildOptions,
+    exit: Exit,
+    tree: &Tree,
+    report: &Report,
+) -> Result<CleanPlan, Fault> {
+    if exit != Exit::Good {
+        return Err(Fault::Unbuilt);
+    }
+    let past = Past::open_by(rt, alloc, build.options.workers, tree.clone()?)?;
+    Ok(dead_plan(alloc, &past, report)?)
+}
+
+/// Tries a build out.
+fn try_out<H: Runtime + Threads + Wait + Sync>(
+    host: &Host<'_, H, Progress<'_>>,
+    build: &BuildOptions,
+    cause: &mut Cause,
+) -> Result<Tried, Fault>
+where
+    H::File: Send + Lockable,
+    H::Dir: Send,
+{
+    let (rt, alloc) = (host.rt, host.alloc);
+    let outcome = build_and_write(host, build, io::sink(), cause);
+    host.observer.clear();
+    match outcome? {
+        Run::OverBundle(run) => {
+            let report = run.report.into_report(alloc)?;
+            let plan = plan_by(rt, alloc, build, run.exit, &run.tree, &report)?;
+            Ok(Tried { plan, passed: 0 })
+        }
+        Run::OverDir(run) => {
+            let plan = plan_by(rt, alloc, build, run.exit, &run.tree, &run.report)?;
+            let passed = run.passed;
+            Ok(Tried { plan, passed })
+        }
+    }
+}
+
+/// Removes what a build of this directory doesn't need.
+fn remove_dead<H: Runtime + Threads + Wait + Sync>(
+    host: &Host<'_, H, Progress<'_>>,
+    build: &BuildOptions,
+    dir: &str,
+    cause: &mut Cause,
+) -> Result<u64, Fault>
+where
+    H::File: Send + Lockable,
+    H::Dir: Send,
+{
+    let (rt, alloc) = (host.rt, host.alloc);
+    let lock = lock(rt, alloc, dir, cause)?;
+    let Tried { plan, passed } = try_out(host, build, cause)?;
+    let mut dir = SystemDir::locked(rt, alloc, dir, &lock, false);
+    clean_by_plan(rt, alloc, &mut dir, &plan, cause)?;
+    Ok(passed)
+}
+
+/// Lists the files that builds left and that this one needs no more, or removes them, or says which it would remove.
+pub(crate) fn tell_dead<H: Runtime + Threads + Wait + Sync>(
+    host: &Host<'_, H, Progress<'_>>,
+    dead: &Dead,
+    cause: &mut Cause,
+) -> Result<bool, Fault>
+where
+    H::File: Send + Lockable,
+    H::Dir: Send,
+{
+    let (rt, alloc, build) = (host.rt, host.alloc, &dead.build);
+    let passed = match &build.input {
+        Input::Directory(dir) if dead.cleaned && !dead.dry_run => {
+            remove_dead(host, build, dir, cause)?
+        }
+        _ => {
+            let Tried { plan, passed } = try_out(host, build, cause)?;
+            let text = if dead.cleaned {
+                planned_text(alloc, &plan)?
+            } else {
+                dead_text(alloc, &plan)?
+            };
+            print(rt, &text)?;
+            passed
+        }
+    };
+    note_passed(rt, passed);
+    Ok(true)
+}

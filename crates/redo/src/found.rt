@@ -1,0 +1,70 @@
+//! What is found of a build beside its report: what it went on from, and what is stale.
+
+use crate::actions::BuildOptions;
+use crate::after::Built;
+use crate::status;
+use crate::status::Fault;
+use redo_dead::dead_plan;
+use redo_notes::{Notes, notes};
+use redo_past::Past;
+use std::alloc::{AllocError, Global};
+use std::rt::Runtime;
+use std::thread::Threads;
+
+/// What is found of a build beside its report.
+#[derive(Drop)]
+pub(crate) struct Found {
+    /// The past of the tree that was built.
+    pub(crate) past: Past,
+    pub(crate) notes: Notes,
+    /// How many files builds left that this one doesn't need, where it is a build of `all` and went well.
+    pub(crate) dead: usize,
+    /// Whether nothing is stale that is to be refused.
+    pub(crate) is_fine: bool,
+}
+
+impl Found {
+    /// The exit status of the build.
+    pub(crate) fn status(&self, built: &Built<'_>) -> u8 {
+        status::of_good(built.good && self.is_fine)
+    }
+}
+
+/// How many files builds left that this one doesn't need. Where it isn't one of `all`, others may, and where a target isn't
+/// built, what it needs isn't known.
+fn dead_of(
+    alloc: Global,
+    build: &BuildOptions,
+    past: &Past,
+    built: &Built<'_>,
+) -> Result<usize, AllocError> {
+    let is_of_all = build
+        .options
+        .targets
+        .iter()
+        .any(|target| target.text() == b"all".as_slice());
+    if !built.good || !is_of_all {
+        return Ok(0);
+    }
+    let plan = dead_plan(alloc, past, built.report)?;
+    Ok(plan.generated.len())
+}
+
+/// Finds what there is beside a report.
+pub(crate) fn find<H: Runtime + Threads + Sync>(
+    rt: &H,
+    alloc: Global,
+    build: &BuildOptions,
+    built: &Built<'_>,
+) -> Result<Found, Fault> {
+    let past = Past::open_by(rt, alloc, build.options.workers, built.tree.clone()?)?;
+    let notes = notes(alloc, &past, &build.options.targets, built.report)?;
+    let dead = dead_of(alloc, build, &past, built)?;
+    let is_fine = !build.strict || (notes.is_empty() && dead == 0);
+    Ok(Found {
+        past,
+        notes,
+        dead,
+        is_fine,
+    })
+}
