@@ -43,8 +43,9 @@ def find():
 
 
 REDO = find()
-# What bin/redo runs in a copy of the repository is told by the test.
+# What bin/redo runs in a copy of the repository is told by the test, and so are options in the environment.
 os.environ.pop("REDO_CHECKS", None)
+os.environ.pop("REDOFLAGS", None)
 
 
 def run(words, text=b"", program=REDO, **more):

@@ -189,7 +189,8 @@ def rule_of(path, left):
 
 
 # Why a file is noted: a source that a rule would make, a file that a target was built without, and one without a rule.
-UNBUILT = "{}: no run left it so, so it counts as yours and isn't built; remove it to have {} make it"
+UNBUILT = "{}: {}, so it counts as yours and isn't built; remove it to have {} make it"
+KNOWN = {True: "it isn't as the last run left it", False: "the book has no record of it"}
 YOURS = "; remove it, or it counts as yours from the next run on"
 UNMADE = "{}: it was built without a file now, but the file of an earlier run stays" + YOURS
 RULELESS = "{}: no rule makes it any more, and its file stays" + YOURS
@@ -204,23 +205,38 @@ def stale(tree, requested, head):
     made = {target: at for target, (at, _) in (records(book) if book is not None else {}).items()}
     ruled = {path: rule_of(path, left) for path in {*left, *made}}
     return [
-        [UNBUILT.format(path, ruled[path]) for path in in_order(left) if path in asked and ruled[path]],
+        [UNBUILT.format(path, KNOWN[path in made], ruled[path]) for path in in_order(left) if path in asked and ruled[path]],
         [UNMADE.format(path) for path in in_order(bare) if stated.get(path)],
         [RULELESS.format(path) for path in in_order(made) if stated.get(path) == made[path] and not ruled[path]],
     ]
 
 
-def notes(tree, requested, head, most=10):
+def dead(tree, requested, status, head):
+    """What is noted of the files that builds left and that a build of `all` needs no more, where it goes well."""
+    rows = became(head)
+    stated, book = states(tree), book_of(tree)
+    made = {target: at for target, (at, _) in (records(book) if book is not None else {}).items()}
+    left = [path for path, at in made.items() if at != "none" and stated.get(path) == at and path not in rows]
+    if status or not left or "all" not in requested:
+        return []
+    words = "".join(" " + path for path in requested) if len(requested) > 1 else ""
+    files = "1 file that builds left is" if len(left) == 1 else f"{len(left)} files that builds left are"
+    return [f"{files} needed no more; see redo --dead{words}, and redo --clean --dead{words}"]
+
+
+def notes(tree, requested, status, head, most=10):
     """The lines that are said of a run: of each kind at most so many, and then how many more there are."""
     lines = []
     for kind in stale(tree, requested, head):
         lines += kind[:most] + [f"and {len(kind) - most} more like it"] * (len(kind) > most)
+    lines += dead(tree, requested or ["all"], status, head)
     return os.fsencode("".join(line + "\n" for line in lines))
 
 
 # A line of notes on files.
 NOTE = "|".join(re.escape(line).replace(r"\{\}", "[^\n]+") for line in (UNBUILT, UNMADE, RULELESS))
-NOTES = re.compile(rb"^(?:%s|and [1-9][0-9]* more like it)\n" % NOTE.encode(), re.M)
+DEAD = rb"[1-9][0-9]* files? that builds left (?:is|are) needed no more; [^\n]+"
+NOTES = re.compile(rb"^(?:%s|%s|and [1-9][0-9]* more like it)\n" % (NOTE.encode(), DEAD), re.M)
 
 
 def notes_in(said):
