@@ -1,5 +1,6 @@
 # Completions of redo for bash, version 4 or later: options, and behind them targets, which are those that the book of
-# the tree names and those that its .do files make. The tree is the directory of -C, or else the current one.
+# the tree names and those that its .do files make. The tree is the directory of -C, or the current one; for --top it is the
+# nearest one with a book, and words are read in the current one.
 
 _redo_options=(
     "-j            Run up to N scripts at a time, 1 to 64"
@@ -12,7 +13,7 @@ _redo_options=(
     "-n            Do all but change the directory"
     "--dry-run     Do all but change the directory"
     "--explain     Say why each script was begun"
-    "--format      Print the report or list as report, json, dot or html"
+    "--format      Print as report, short, json, dot or html"
     "--with-rules  With --format dot: draw .do files, too"
     "--strict      Fail if a file is stale or soon will be"
     "--sync        Have each file on the disk before it gets its name"
@@ -23,11 +24,13 @@ _redo_options=(
     "--rdeps       Print the targets that depend on PATH"
     "--all         With --rdeps: directly or through others"
     "--ood         Print which targets are out of date, and why"
+    "--shadowed    Print the sources that have a rule"
     "--pack        Print the directory as a bundle"
     "--unpack      Make a bundle's files in an empty or new directory"
     "--clean       Remove the files that the last run left, and its book"
-    "-v            Add causes to messages, and notes on stale files"
-    "--verbose     Add causes to messages, and notes on stale files"
+    "--dead        Print or clean built files that TARGETS need no more"
+    "-v            Say why targets failed, causes of messages, and notes"
+    "--verbose     Say why targets failed, causes of messages, and notes"
     "-q            Print no notes and no progress on a terminal"
     "--quiet       Print no notes and no progress on a terminal"
     "-h            Print help"
@@ -57,11 +60,31 @@ _redo_offer() {
     done
 }
 
-# One program is started for all targets of the book, and none for the .do files.
+# _redo_find_top: where --top is said, sets dir to the nearest directory with a book, and below to what leads from there to
+# the current one, with a slash behind it.
+_redo_find_top() {
+    local at=$PWD
+    [[ $top ]] || return 0
+    while [[ ! -f $at/.redo-book ]]; do
+        [[ $at ]] || return 0
+        at=${at%/*}
+    done
+    below=${PWD#"$at"}
+    below=${below#/}
+    below=${below:+$below/}
+    book=$at
+}
+
+# One program is started for all names of the book, and none for the .do files. Of --top's those below the current directory
+# are offered.
 _redo_offer_targets() {
-    local path names=()
-    if [[ -f $dir/.redo-book ]]; then
-        mapfile -t names < <(sed -n 's/^target [0-9a-z]* //p' "$dir/.redo-book")
+    local path names=() pattern='s/^target [0-9a-z]* //p' below= book=$dir
+    [[ $awaited != path ]] || pattern='s/^\(target\|change\) [0-9a-z]* //p; s/^create //p'
+    _redo_find_top
+    if [[ -f $book/.redo-book ]]; then
+        while IFS= read -r path; do
+            [[ $path != "$below"* ]] || names+=("${path#"$below"}")
+        done < <(sed -n "$pattern" "$book/.redo-book")
     fi
     for path in "$dir/$word"*.do; do
         path=${path#"$dir/"}
@@ -81,7 +104,7 @@ _redo_offer_options() {
 }
 
 _redo() {
-    local at awaited= dir=. ended= alone= word REPLY
+    local at awaited= dir=. ended= alone= dead= top= word REPLY
     COMPREPLY=()
     # The option that awaits the word at the cursor. An = is a word of its own.
     for ((at = 1; at < COMP_CWORD; at++)); do
@@ -96,8 +119,12 @@ _redo() {
             -j | -[knqv]*j | --jobs) awaited=number ;;
             -C | -[knqv]*C) awaited=dir ;;
             -C?*) dir=${REPLY#-C} ;;
-            --whichdo | --deps | --rdeps) awaited=target alone=yes ;;
-            --targets | --sources | --pack | --unpack | --clean) alone=yes ;;
+            --format) awaited=format ;;
+            --top) top=yes ;;
+            --whichdo | --deps) awaited=target alone=yes ;;
+            --rdeps) awaited=path alone=yes ;;
+            --dead) dead=yes ;;
+            --targets | --sources | --shadowed | --pack | --unpack | --clean) alone=yes ;;
             esac
         fi
     done
@@ -111,9 +138,10 @@ _redo() {
         mapfile -t COMPREPLY < <(compgen -d -- "$word")
         compopt -o filenames 2>/dev/null
         ;;
-    target) _redo_offer_targets ;;
+    format) _redo_offer report short json dot html ;;
+    target | path) _redo_offer_targets ;;
     *)
-        [[ $alone || ! $ended && $word == -* ]] || _redo_offer_targets
+        [[ $alone && ! $dead || ! $ended && $word == -* ]] || _redo_offer_targets
         [[ $ended || ${#COMPREPLY[@]} -gt 0 || $word && $word != -* ]] || _redo_offer_options
         ;;
     esac
