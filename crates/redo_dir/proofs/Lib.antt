@@ -1,3 +1,4 @@
+pub mod CallLemmas
 pub mod ClearLemmas
 pub mod EntryNameLemmas
 pub mod FailLemmas

@@ -1,0 +1,28 @@
+use Rattle.std.proofs.Common.{rules, of_calls, ◌≡◌, ◌++◌, ◌∷◌, [], ◌⊎◌, inl, inr, true, false, ◌∙◌, ap, sym, subst, refl, Some, None, Ok, Err}
+use Rattle.std.specs.Path.{path_buf_bytes, path_join}
+use Rattle.redo_dir.specs.Called.{Finds, Follows, HasDone, IsPart, Keeps, Names, Renames, Stays, Syncs, Unlinks, IsFree, is_waited_for}
+use Rattle.redo_dir.specs.Stored.{Finishes, Journals, Puts, Removes, steps_of, step_of, put_of}
+use Rattle.redo_which.specs.Candidates.{book_path, journal_path}
+use Rattle.redo_dir.proofs.CallLemmas.{told_same, told_kept, told_more, told_idle, follows_both, follows_kept}
+use Rattle.redo_dir.proofs.system.SystemDir.take_over.Goals as goal
+
+pub invariant_of-self : goal.invariant_of-self
+invariant_of-self g c =
+    let same : steps_of c.reserve.new.self.items ≡ steps_of c.args.self.now.done.items = search rules in
+    record { told = told_same g.C.Calls.after c.args.self.now.top.now c.args.self.now.calls (steps_of c.args.self.now.done.items) (steps_of c.reserve.new.self.items) c.args.self.now.told same }
+
+pub invariant_of-self-in-Break-branch-2 : goal.invariant_of-self-in-Break-branch-2
+invariant_of-self-in-Break-branch-2 g c =
+    let same : steps_of c.reserve.new.self.items ≡ steps_of c.args.self.now.done.items = search rules in
+    let kept : Keeps g.C.Calls.after c.args.self.now.calls c.rename.new.self = search rules in
+    record { told = told_kept g.C.Calls.after c.args.self.now.top.now c.args.self.now.calls c.rename.new.self (steps_of c.args.self.now.done.items) (steps_of c.reserve.new.self.items) c.args.self.now.told kept same }
+
+pub invariant_of-self-2 : goal.invariant_of-self-2
+invariant_of-self-2 g c =
+    let top = c.args.self.now.top.now in
+    let calls = Renames (path_buf_bytes c.args.journal.now) (path_buf_bytes c.args.book.now) ∷ [] in
+    let more : steps_of c.note.new.done.items ≡ steps_of c.args.self.now.done.items ++ Finishes ∷ [] = search rules in
+    let gone : Follows g.C.Calls.after c.args.self.now.calls calls c.rename.new.self = search rules in
+    let part : IsPart top calls (Finishes ∷ []) =
+    ap (λ p. Renames p (path_buf_bytes c.args.book.now) ∷ []) c.requires.journal ∙ ap (λ p. Renames (path_join top journal_path) p ∷ []) c.requires.book in
+    record { told = told_more g.C.Calls.after top c.args.self.now.calls c.rename.new.self calls (steps_of c.args.self.now.done.items) (Finishes ∷ []) (steps_of c.note.new.done.items) c.args.self.now.told gone part more }

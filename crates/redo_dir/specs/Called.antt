@@ -1,0 +1,131 @@
+-- The calls of the system that changed something, and what they come to in a directory.
+use Rattle.std.specs.Prelude.{◌≡◌, ◌≢◌, ◌⊎◌, ℕ, Bool, true, false, List, [], ◌∷◌, ◌++◌, Option, Some, None, Result, Ok, Err, IfSome, take, zero, suc}
+use Rattle.std.specs.Fs.{IsDir, IsFile, file_type, metadata_len}
+use Rattle.std.specs.List.{AllByRecursion}
+use Rattle.std.specs.Path.{path_join}
+use Rattle.std.specs.declared.fs.attrs.Metadata.{Metadata}
+use Rattle.std.specs.declared.io.ErrorKind.{ErrorKind}
+use Rattle.std.specs.declared.io.ErrorKind.TheVariants.{InvalidInput, NotFound, Unsupported}
+use Rattle.redo_dir.specs.Stored.{Step, Finishes, Journals, Puts, Removes}
+use Rattle.redo_tree.specs.Tree.{Node, Directory, File}
+use Rattle.redo_which.specs.Candidates.{book_path, journal_path}
+
+-- what a place was looked at as, or the error
+abbrev pub Found : Type 0
+Found = Result Metadata ErrorKind
+
+-- a call that changes something or is made between two that do, with its answer; those without one were answered well
+pub data Call : Type 0 where
+  -- the new file at the first place, to which these bytes were written whole (and waited for, or not), got the second
+  Names : List ℕ → List ℕ → Bool → List ℕ → Call
+  -- the new file at this place, to which these bytes were written whole (and waited for, or not), is to stay there
+  Stays : List ℕ → List ℕ → Bool → Call
+  -- what was at the first place got the second
+  Renames : List ℕ → List ℕ → Call
+  -- the name at this place was taken away
+  Unlinks : List ℕ → Call
+  -- the names in the directory at this place were waited for
+  Syncs : List ℕ → Option ErrorKind → Call
+  -- the place was looked at, and no link was followed
+  Finds : List ℕ → Found → Call
+
+-- behind old the system answered these calls, and then it is new
+abbrev pub Follows : {C : Type 0} → (C → List Call → Type 0) → C → List Call → C → Type 0
+Follows after old calls new = (log : List Call) → after old log → after new (log ++ calls)
+
+-- between old and new the system answered none
+abbrev pub Keeps : {C : Type 0} → (C → List Call → Type 0) → C → C → Type 0
+Keeps after old new = (log : List Call) → after old log → after new log
+
+-- neither a file nor a directory was found
+abbrev pub IsFree : Found → Type 0
+IsFree (Ok about) = (IsDir (file_type about) → ⊥) × (IsFile (file_type about) → ⊥)
+IsFree (Err kind) = kind ≡ NotFound
+
+-- whether the names are on the disk, or the file system can't be asked for that
+abbrev pub is_waited_for : Option ErrorKind → Bool
+is_waited_for None = true
+is_waited_for (Some InvalidInput) = true
+is_waited_for (Some Unsupported) = true
+is_waited_for (Some kind) = false
+
+-- calls that come to no step: looks and waits
+abbrev pub IsIdle : Call → Type 0
+IsIdle (Names from bytes synced to) = ⊥
+IsIdle (Stays place bytes synced) = ⊥
+IsIdle (Renames from to) = ⊥
+IsIdle (Unlinks place) = ⊥
+IsIdle (Syncs place answer) = Unit {0}
+IsIdle (Finds place found) = Unit {0}
+
+-- in the directory at top, these calls are that step
+abbrev pub IsStep : List ℕ → List Call → Step → Type 0
+IsStep top calls (Journals text) =
+    (answer : Option ErrorKind) × (is_waited_for answer ≡ true) ×
+    (calls ≡ Stays (path_join top journal_path) text true ∷ Syncs (path_join top []) answer ∷ [])
+IsStep top calls (Puts path bytes true) =
+    (from : List ℕ) × (synced : Bool) × (path ≡ book_path → synced ≡ true) × (calls ≡ Names from bytes synced (path_join top path) ∷ [])
+IsStep top calls (Puts path bytes false) =
+    (from : List ℕ) × (synced : Bool) × (path ≡ book_path → synced ≡ true) × (found : Found) × IsFree found ×
+    (calls ≡ Finds (path_join top path) found ∷ Names from bytes synced (path_join top path) ∷ [])
+IsStep top calls Finishes = calls ≡ Renames (path_join top journal_path) (path_join top book_path) ∷ []
+IsStep top calls (Removes path) =
+    ((path ≢ journal_path) × (calls ≡ Unlinks (path_join top path) ∷ [])) ⊎
+    ((answer : Option ErrorKind) × (is_waited_for answer ≡ true) × (path ≡ journal_path) ×
+    (calls ≡ Syncs (path_join top []) answer ∷ Unlinks (path_join top path) ∷ []))
+
+-- A journal that isn't one, since its name can't be waited for, is taken away if it can be.
+abbrev pub IsUndone : List ℕ → List Call → Type 0
+IsUndone top calls =
+    (text : List ℕ) × (answer : Option ErrorKind) × (gone : List Call) × (is_waited_for answer ≡ false) ×
+    ((gone ≡ []) ⊎ (gone ≡ Unlinks (path_join top journal_path) ∷ [])) ×
+    (calls ≡ Stays (path_join top journal_path) text true ∷ Syncs (path_join top []) answer ∷ gone)
+
+-- calls that belong together, and the steps that they are: one or none
+abbrev pub IsPart : List ℕ → List Call → List Step → Type 0
+IsPart top calls [] = AllByRecursion IsIdle calls ⊎ IsUndone top calls
+IsPart top calls (step ∷ []) = IsStep top calls step
+IsPart top calls (step ∷ more ∷ steps) = ⊥
+
+abbrev pub calls_in : List (List Call × List Step) → List Call
+calls_in [] = []
+calls_in (p ∷ ps) = p.0 ++ calls_in ps
+
+abbrev pub steps_in : List (List Call × List Step) → List Step
+steps_in [] = []
+steps_in (p ∷ ps) = p.1 ++ steps_in ps
+
+-- in the directory at top, a log of calls comes to these steps, in this order
+pub record Does (top : List ℕ) (log : List Call) (steps : List Step) : Type 0 where
+  pub parts : List (List Call × List Step)
+  pub calls : calls_in parts ≡ log
+  pub done : steps_in parts ≡ steps
+  pub each : AllByRecursion (λ p. IsPart top p.0 p.1) parts
+
+-- what the system was called for so far comes to these steps
+abbrev pub HasDone : {C : Type 0} → (C → List Call → Type 0) → List ℕ → C → List Step → Type 0
+HasDone after top calls steps = ∥ ((log : List Call) × after calls log × Does top log steps) ∥₁
+
+-- the bytes that are read of a file of this size; some file systems say 0 where they know none
+abbrev pub front_read : ℕ → List ℕ → List ℕ
+front_read zero bytes = bytes
+front_read (suc n) bytes = take (suc n) bytes
+
+-- What a place leads to, as the system answered: it was looked at, and where it is a file, that was read.
+abbrev pub LeadsTo : (List ℕ → Found → Type 0) → (List ℕ → Option (List ℕ) → Type 0) → List ℕ → Option Node → Type 0
+LeadsTo stands opens place (Some Directory) = (about : Metadata) × stands place (Ok about) × IsDir (file_type about)
+LeadsTo stands opens place (Some (File bytes)) =
+    (about : Metadata) × stands place (Ok about) × IsFile (file_type about) ×
+    (holds : Option (List ℕ)) × opens place holds × IfSome holds (λ all. bytes ≡ front_read (metadata_len about) all)
+LeadsTo stands opens place None =
+    (about : Metadata) × stands place (Ok about) × (IsDir (file_type about) → ⊥) × (IsFile (file_type about) → ⊥)
+
+-- the answer of a look, whose errors are of these kinds
+abbrev pub found_of : {E : Type 0} → (E → ErrorKind) → Result Metadata E → Found
+found_of kind (Ok about) = Ok about
+found_of kind (Err error) = Err (kind error)
+
+-- the answer of a wait
+abbrev pub answer_of : {A E : Type 0} → (E → ErrorKind) → Result A E → Option ErrorKind
+answer_of kind (Ok x) = None
+answer_of kind (Err error) = Some (kind error)

@@ -1,0 +1,168 @@
+//! What a directory asks of the system by several calls: to read a file, to write a new one whole, to wait.
+
+ghost use Rattle.std.specs.Path.{path_buf_bytes};
+ghost use Rattle.std.specs.Prelude.{◌≡◌, ◌∷◌, [], Bool, IfOk, IfSome, List, Ok, Option, OnOk, false, is_ok, true, ℕ};
+ghost use Rattle.std.specs.IoError.{error_kind};
+ghost use Rattle.std.specs.declared.io.ErrorKind.{ErrorKind};
+ghost use Rattle.redo_dir.specs.Called.{Finds, Follows, Found, IsFree, LeadsTo, Syncs, answer_of, found_of, front_read, is_waited_for};
+ghost use Rattle.redo_dir.specs.Loaded.{node_seen};
+
+use crate::calls::{Calls, ClosedFile, NewFile};
+use crate::work_dir::Seen;
+use std::alloc::Global;
+use std::fs::{Metadata, Permissions};
+use std::io;
+use std::io::{ErrorKind, Read};
+use std::path::PathBuf;
+
+/// The bytes of a file, which had `size` of them when it was looked at. What it has grown by since isn't read.
+fn read_file<C: Calls>(calls: &C, alloc: Global, place: &PathBuf, size: u64) -> io::Result<Vec<u8>>
+    ensures { IfOk result (λ bytes. (holds : Option (List ℕ)) × C.opens calls.now (path_buf_bytes place.now) holds ×
+        IfSome holds (λ all. bytes.items ≡ front_read size all)) }
+{
+    let mut file = calls.open(place)?;
+    let mut bytes = Vec::with_capacity(alloc, size as usize)?;
+    if size == 0 {
+        // Some file systems know no sizes, and say 0.
+        file.read_to_end(&mut bytes)?;
+    } else {
+        // With a limit the system isn't asked once more whether the file has ended.
+        file.take(size).read_to_end(&mut bytes)?;
+    }
+    Ok(bytes)
+}
+
+/// What a place leads to, of which the system says this.
+pub(crate) fn read_seen<C: Calls>(
+    calls: &C,
+    alloc: Global,
+    place: &PathBuf,
+    about: &Metadata,
+) -> io::Result<Seen>
+    requires { C.stands calls.now (path_buf_bytes place.now) (Ok about.now) }
+    ensures { IfOk result (λ seen. LeadsTo (C.stands calls.now) (C.opens calls.now) (path_buf_bytes place.now) (node_seen seen)) }
+{
+    if about.is_dir() {
+        return Ok(Seen::Directory);
+    }
+    if about.is_file() {
+        let bytes = read_file(calls, alloc, place, about.len())?;
+        return Ok(Seen::File(bytes));
+    }
+    Ok(Seen::Other)
+}
+
+/// Who may read, write and run the file at a place, if one stands there.
+pub(crate) fn permissions_at<C: Calls>(
+    calls: &C,
+    place: &PathBuf,
+) -> io::Result<Option<Permissions>> {
+    match calls.look(place) {
+        Ok(about) if about.is_file() => Ok(Some(about.permissions())),
+        Ok(_) => Ok(None),
+        Err(error) if error.kind() == ErrorKind::NotFound => Ok(None),
+        Err(error) => Err(error),
+    }
+}
+
+/// Gives a new file these permissions. Where it has them, the system isn't asked: some file systems know no others.
+fn permit<F: NewFile>(file: &F, permissions: Permissions) -> io::Result<()> {
+    if file.permissions()? == permissions {
+        return Ok(());
+    }
+    file.permit(permissions)
+}
+
+/// What a new file is to have.
+#[derive(Drop)]
+pub(crate) struct NewContent<'a> {
+    pub bytes: &'a [u8],
+    /// The permissions of the file that it replaces.
+    pub permissions: Option<Permissions>,
+    /// Whether it is waited for until it is on the disk.
+    pub synced: bool,
+}
+
+/// Fills a new file. It has its permissions before it has any bytes, so that nobody reads them who may not.
+fn fill<F: NewFile>(file: &mut F, new: NewContent<'_>) -> io::Result<()>
+    ensures made { (place : List ℕ) → F.made file.old place → F.made file.new place }
+    ensures holds { OnOk result ((place : List ℕ) →
+        F.holds file.old place [] false → F.holds file.new place new.entry.bytes.now new.entry.synced) }
+{
+    if let Some(permissions) = new.permissions {
+        permit(file, permissions)?;
+    }
+    file.write(new.bytes)?;
+    if new.synced {
+        file.sync()?;
+    }
+    Ok(())
+}
+
+/// Writes a new file and closes it, or leaves no file of its own.
+pub(crate) fn write_new<C: Calls>(
+    calls: &C,
+    place: &PathBuf,
+    new: NewContent<'_>,
+) -> io::Result<C::Closed>
+    ensures made { IfOk result (λ file. C.Closed.made file (path_buf_bytes place.now)) }
+    ensures holds { IfOk result (λ file. C.Closed.holds file (path_buf_bytes place.now) new.entry.bytes.now new.entry.synced) }
+{
+    let mut open = calls.create(place)?;
+    let outcome = fill(&mut open, new);
+    let file = calls.close(open);
+    if let Err(error) = outcome {
+        let _removed = calls.discard(&file, place);
+        return Err(error);
+    }
+    Ok(file)
+}
+
+/// Refuses a place that was found to have a file or a directory.
+fn free_found(found: io::Result<Metadata>) -> io::Result<()>
+    ensures { OnOk result (IsFree (found_of error_kind found)) }
+{
+    match found {
+        Ok(about) => {
+            if about.is_file() || about.is_dir() {
+                return Err(io::Error::from(ErrorKind::AlreadyExists));
+            }
+            Ok(())
+        }
+        Err(error) => match error.kind() {
+            ErrorKind::NotFound => Ok(()),
+            _ => Err(error),
+        },
+    }
+}
+
+/// Refuses a place where a file or a directory stands.
+pub(crate) fn check_free<C: Calls>(calls: &mut C, place: &PathBuf) -> io::Result<()>
+    ensures { (found : Found) × Follows C.after calls.old (Finds (path_buf_bytes place.now) found ∷ []) calls.new ×
+        OnOk result (IsFree found) }
+{
+    let found = calls.find(place);
+    free_found(found)
+}
+
+/// A file system that can't be asked to wait for names is taken at its word.
+fn waited(answer: io::Result<()>) -> io::Result<()>
+    ensures { is_ok result ≡ is_waited_for (answer_of error_kind answer) }
+{
+    match answer {
+        Ok(()) => Ok(()),
+        Err(error) => match error.kind() {
+            ErrorKind::InvalidInput | ErrorKind::Unsupported => Ok(()),
+            _ => Err(error),
+        },
+    }
+}
+
+/// Waits until the names in a directory are on the disk.
+pub(crate) fn sync_names<C: Calls>(calls: &mut C, place: &PathBuf) -> io::Result<()>
+    ensures { (answer : Option ErrorKind) × Follows C.after calls.old (Syncs (path_buf_bytes place.now) answer ∷ []) calls.new ×
+        (is_ok result ≡ is_waited_for answer) }
+{
+    let answer = calls.sync_names(place);
+    waited(answer)
+}
