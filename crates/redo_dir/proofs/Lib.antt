@@ -8,3 +8,4 @@ pub mod LevelLemmas
 pub mod ListingLemmas
 pub mod OwnLemmas
 pub mod TextLemmas
+pub mod WaitLemmas

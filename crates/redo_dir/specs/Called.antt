@@ -7,6 +7,9 @@ use Rattle.std.specs.declared.fs.attrs.Metadata.{Metadata}
 use Rattle.std.specs.declared.io.ErrorKind.{ErrorKind}
 use Rattle.std.specs.declared.io.ErrorKind.TheVariants.{InvalidInput, NotFound, Unsupported}
 use Rattle.redo_dir.specs.Stored.{Step, Finishes, Journals, Puts, Removes}
+use Rattle.redo_dir.specs.declared.access.Access.{Access}
+use Rattle.redo_dir.specs.declared.access.Access.TheVariants.{StoreSynced}
+use Rattle.redo_path.specs.Names.{parent_of}
 use Rattle.redo_tree.specs.Tree.{Node, Directory, File}
 use Rattle.redo_which.specs.Candidates.{book_path, journal_path}
 
@@ -58,18 +61,40 @@ IsIdle (Unlinks place) = ⊥
 IsIdle (Syncs place answer) = Unit {0}
 IsIdle (Finds place found) = Unit {0}
 
--- in the directory at top, these calls are that step
-abbrev pub IsStep : List ℕ → List Call → Step → Type 0
-IsStep top calls (Journals text) =
+-- the names in the directory at this place were waited for
+abbrev pub IsWait : List ℕ → Call → Type 0
+IsWait place call = (answer : Option ErrorKind) × (is_waited_for answer ≡ true) × (call ≡ Syncs place answer)
+
+abbrev pub HasWait : List ℕ → List Call → Type 0
+HasWait place [] = ⊥
+HasWait place (call ∷ calls) = IsWait place call ⊎ HasWait place calls
+
+-- where the step gave a file its name, the names in that directory were waited for
+abbrev pub IsNameWaitedFor : List ℕ → List Call → Step → Type 0
+IsNameWaitedFor top waits (Puts path bytes over) = IfSome (parent_of path) (λ dir. HasWait (path_join top dir) waits)
+IsNameWaitedFor top waits step = Unit {0}
+
+-- a file that has to be on the disk before it gets its name: a book that was recovered, or each file if the run waits
+abbrev pub MustBeSynced : Access → List ℕ → Type 0
+MustBeSynced access path = (path ≡ book_path) ⊎ (access ≡ StoreSynced)
+
+-- In the directory at top, behind the steps before, these calls are that step. Where the run waits for its files, the
+-- journal becomes the book once all names are on the disk.
+abbrev pub IsStep : Access → List ℕ → List Step → List Call → Step → Type 0
+IsStep access top before calls (Journals text) =
     (answer : Option ErrorKind) × (is_waited_for answer ≡ true) ×
     (calls ≡ Stays (path_join top journal_path) text true ∷ Syncs (path_join top []) answer ∷ [])
-IsStep top calls (Puts path bytes true) =
-    (from : List ℕ) × (synced : Bool) × (path ≡ book_path → synced ≡ true) × (calls ≡ Names from bytes synced (path_join top path) ∷ [])
-IsStep top calls (Puts path bytes false) =
-    (from : List ℕ) × (synced : Bool) × (path ≡ book_path → synced ≡ true) × (found : Found) × IsFree found ×
+IsStep access top before calls (Puts path bytes true) =
+    (from : List ℕ) × (synced : Bool) × (MustBeSynced access path → synced ≡ true) ×
+    (calls ≡ Names from bytes synced (path_join top path) ∷ [])
+IsStep access top before calls (Puts path bytes false) =
+    (from : List ℕ) × (synced : Bool) × (MustBeSynced access path → synced ≡ true) × (found : Found) × IsFree found ×
     (calls ≡ Finds (path_join top path) found ∷ Names from bytes synced (path_join top path) ∷ [])
-IsStep top calls Finishes = calls ≡ Renames (path_join top journal_path) (path_join top book_path) ∷ []
-IsStep top calls (Removes path) =
+IsStep access top before calls Finishes =
+    (waits : List Call) × AllByRecursion IsIdle waits ×
+    (access ≡ StoreSynced → AllByRecursion (IsNameWaitedFor top waits) before) ×
+    (calls ≡ waits ++ Renames (path_join top journal_path) (path_join top book_path) ∷ [])
+IsStep access top before calls (Removes path) =
     ((path ≢ journal_path) × (calls ≡ Unlinks (path_join top path) ∷ [])) ⊎
     ((answer : Option ErrorKind) × (is_waited_for answer ≡ true) × (path ≡ journal_path) ×
     (calls ≡ Syncs (path_join top []) answer ∷ Unlinks (path_join top path) ∷ []))
@@ -82,10 +107,15 @@ IsUndone top calls =
     (calls ≡ Stays (path_join top journal_path) text true ∷ Syncs (path_join top []) answer ∷ gone)
 
 -- calls that belong together, and the steps that they are: one or none
-abbrev pub IsPart : List ℕ → List Call → List Step → Type 0
-IsPart top calls [] = AllByRecursion IsIdle calls ⊎ IsUndone top calls
-IsPart top calls (step ∷ []) = IsStep top calls step
-IsPart top calls (step ∷ more ∷ steps) = ⊥
+abbrev pub IsPart : Access → List ℕ → List Step → List Call → List Step → Type 0
+IsPart access top before calls [] = AllByRecursion IsIdle calls ⊎ IsUndone top calls
+IsPart access top before calls (step ∷ []) = IsStep access top before calls step
+IsPart access top before calls (step ∷ more ∷ steps) = ⊥
+
+-- parts, one behind another
+abbrev pub AreParts : Access → List ℕ → List Step → List (List Call × List Step) → Type 0
+AreParts access top before [] = Unit {0}
+AreParts access top before (p ∷ ps) = IsPart access top before p.0 p.1 × AreParts access top (before ++ p.1) ps
 
 abbrev pub calls_in : List (List Call × List Step) → List Call
 calls_in [] = []
@@ -96,15 +126,15 @@ steps_in [] = []
 steps_in (p ∷ ps) = p.1 ++ steps_in ps
 
 -- in the directory at top, a log of calls comes to these steps, in this order
-pub record Does (top : List ℕ) (log : List Call) (steps : List Step) : Type 0 where
+pub record Does (access : Access) (top : List ℕ) (log : List Call) (steps : List Step) : Type 0 where
   pub parts : List (List Call × List Step)
   pub calls : calls_in parts ≡ log
   pub done : steps_in parts ≡ steps
-  pub each : AllByRecursion (λ p. IsPart top p.0 p.1) parts
+  pub each : AreParts access top [] parts
 
 -- what the system was called for so far comes to these steps
-abbrev pub HasDone : {C : Type 0} → (C → List Call → Type 0) → List ℕ → C → List Step → Type 0
-HasDone after top calls steps = ∥ ((log : List Call) × after calls log × Does top log steps) ∥₁
+abbrev pub HasDone : {C : Type 0} → (C → List Call → Type 0) → Access → List ℕ → C → List Step → Type 0
+HasDone after access top calls steps = ∥ ((log : List Call) × after calls log × Does access top log steps) ∥₁
 
 -- the bytes that are read of a file of this size; some file systems say 0 where they know none
 abbrev pub front_read : ℕ → List ℕ → List ℕ

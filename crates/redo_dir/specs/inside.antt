@@ -1,3 +1,4 @@
 pub mod Batches
 pub mod Clearing
 pub mod Levels
+pub mod Waiting

@@ -1,10 +1,11 @@
 //! What a directory asks of the system by several calls: to read a file, to write a new one whole, to wait.
 
 ghost use Rattle.std.specs.Path.{path_buf_bytes};
-ghost use Rattle.std.specs.Prelude.{◌≡◌, ◌∷◌, [], Bool, IfOk, IfSome, List, Ok, Option, OnOk, false, is_ok, true, ℕ};
+ghost use Rattle.std.specs.Prelude.{◌≡◌, ◌∷◌, [], Bool, IfOk, IfSome, List, Ok, Option, OnErr, OnOk, false, is_ok, map, true, ℕ};
 ghost use Rattle.std.specs.IoError.{error_kind};
 ghost use Rattle.std.specs.declared.io.ErrorKind.{ErrorKind};
 ghost use Rattle.redo_dir.specs.Called.{Finds, Follows, Found, IsFree, LeadsTo, Syncs, answer_of, found_of, front_read, is_waited_for};
+ghost use Rattle.redo_dir.specs.inside.Waiting.{HasIdled, HasWaited};
 ghost use Rattle.redo_dir.specs.Loaded.{node_seen};
 
 use crate::calls::{Calls, ClosedFile, NewFile};
@@ -165,4 +166,15 @@ pub(crate) fn sync_names<C: Calls>(calls: &mut C, place: &PathBuf) -> io::Result
 {
     let answer = calls.sync_names(place);
     waited(answer)
+}
+
+/// Waits until the names in these directories are on the disk.
+pub(crate) fn sync_each<C: Calls>(calls: &mut C, places: &[PathBuf]) -> io::Result<()>
+    ensures waited { OnOk result (HasWaited C.after calls.old (map path_buf_bytes places.now) calls.new) }
+    ensures idle { OnErr result (HasIdled C.after calls.old calls.new) }
+{
+    for place in places {
+        sync_names(calls, place)?;
+    }
+    Ok(())
 }

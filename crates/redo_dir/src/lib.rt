@@ -16,6 +16,7 @@
 //! - `faults`: why a directory was not read, or a file not stored; `unwritten`: why one file was not.
 #![tactic(auto)]
 
+mod access;
 mod asking;
 mod batches;
 mod calls;

@@ -1,12 +1,18 @@
 //! A directory of the system, as a run works in it.
 
 ghost use Rattle.std.specs.Path.{path_buf_bytes, path_join, path_with_file_name};
-ghost use Rattle.std.specs.Prelude.{◌≡◌, ◌≢◌, ◌++◌, ◌∷◌, ◌<◌, [], Bool, IfOk, OnErr, OnOk, false, string_bytes, true, vec_capacity, vec_len};
-ghost use Rattle.redo_dir.specs.Called.{HasDone};
+ghost use Rattle.std.specs.List.{AllByRecursion};
+ghost use Rattle.std.specs.Prelude.{◌≡◌, ◌≢◌, ◌++◌, ◌∷◌, ◌<◌, [], Contains, IfOk, OnErr, OnOk, false, map, string_bytes, true, vec_capacity, vec_len};
+ghost use Rattle.redo_dir.specs.Called.{HasDone, MustBeSynced};
+ghost use Rattle.redo_dir.specs.inside.Waiting.{AreAmong, HasDirOf};
+ghost use Rattle.redo_dir.specs.declared.access.Access.TheVariants.{StoreSynced};
 ghost use Rattle.redo_dir.specs.Stored.{Finishes, IsNamed, Journals, Puts, Removes, put_of, step_of, steps_of};
 ghost use Rattle.redo_which.specs.Candidates.{book_path, journal_path};
 
-use crate::asking::{NewContent, check_free, permissions_at, read_seen, sync_names, write_new};
+use crate::access::Access;
+use crate::asking::{
+    NewContent, check_free, permissions_at, read_seen, sync_each, sync_names, write_new,
+};
 use crate::calls::{Calls, ClosedFile};
 use crate::changes::Change;
 use crate::lock::DirLock;
@@ -27,16 +33,6 @@ const JOURNAL_NAME: &str = ".redo-journal";
 
 const BOOK_NAME: &str = ".redo-book";
 
-/// What a run may do in a directory, beside reading it.
-#[derive(Clone, Copy, Debug, PartialEq, Eq)]
-enum Access {
-    Read,
-    /// It stores files, without waiting until they are on the disk.
-    Store,
-    /// It waits until a file is on the disk before the file gets its name, and until the names are before it ends.
-    StoreSynced,
-}
-
 /// A directory of the system. It may itself be a link; what is below it is never reached by one.
 #[derive(Drop)]
 pub struct SystemDir<'a, C: Calls> {
@@ -47,7 +43,7 @@ pub struct SystemDir<'a, C: Calls> {
     tag: Option<Tag>,
     done: Vec<Change>,
     // What is noted as done is what the calls of the system come to.
-    ghost told: { HasDone C.after top.now calls (steps_of done.items) },
+    ghost told: { HasDone C.after access top.now calls (steps_of done.items) },
 }
 
 /// A file of the system that was written under a temporary name.
@@ -63,9 +59,11 @@ pub struct SystemDraft<'a, C: Calls> {
     beside: PathBuf,
     name: String,
     file: C::Closed,
+    /// Whether it is on the disk.
+    synced: bool,
     ghost placed: { path_buf_bytes place ≡ path_join top.now path },
     ghost made: { ∥ C.Closed.made file (path_buf_bytes beside) ∥₁ },
-    ghost written: { ∥ ((synced : Bool) × (path ≡ book_path → synced ≡ true) × C.Closed.holds file (path_buf_bytes beside) content synced) ∥₁ },
+    ghost written: { ∥ C.Closed.holds file (path_buf_bytes beside) content synced ∥₁ },
 }
 
 impl<C: Calls> Drafted for SystemDraft<'_, C> {
@@ -81,6 +79,20 @@ fn place_beside(alloc: Global, place: &PathBuf, name: &str) -> Result<PathBuf, A
     ensures { IfOk result (λ beside. path_buf_bytes beside ≡ path_with_file_name (path_buf_bytes place.now) name.now) }
 {
     place.with_file_name(alloc, name)
+}
+
+/// Adds a place, unless it was the last: the files of one directory follow one another mostly.
+fn note_place(places: &mut Vec<PathBuf>, place: PathBuf) -> Result<(), AllocError>
+    ensures kept { AreAmong (map path_buf_bytes places.old.items) (map path_buf_bytes places.new.items) }
+    ensures noted { OnOk result (Contains (map path_buf_bytes places.new.items) (path_buf_bytes place)) }
+{
+    if let Some(last) = places.last() {
+        if last.as_str() == place.as_str() {
+            return Ok(());
+        }
+    }
+    places.push(place)?;
+    Ok(())
 }
 
 /// Notes a change, for which there is room.
@@ -153,63 +165,60 @@ impl<'a, C: Calls> SystemDir<'a, C> {
         }
     }
 
+    /// Adds the place of the directory in which a change named a file.
+    fn note_dir(&self, alloc: Global, places: &mut Vec<PathBuf>, change: &Change) -> io::Result<()>
+        ensures kept { AreAmong (map path_buf_bytes places.old.items) (map path_buf_bytes places.new.items) }
+        ensures noted { OnOk result (HasDirOf self.now.top.now (map path_buf_bytes places.new.items) (step_of change.now)) }
+    {
+        let Change::Put(path, _, _) = change else {
+            return Ok(());
+        };
+        let Some(dir) = path.parent_text() else {
+            return Ok(());
+        };
+        let place = self.place_of(alloc, dir)?;
+        note_place(places, place)?;
+        Ok(())
+    }
+
     /// The places of the directories of all files that were put.
-    fn dirs_of_puts(&self, alloc: Global) -> io::Result<Vec<PathBuf>> {
+    fn dirs_of_puts(&self, alloc: Global) -> io::Result<Vec<PathBuf>>
+        ensures { IfOk result (λ places.
+            AllByRecursion (HasDirOf self.now.top.now (map path_buf_bytes places.items)) (steps_of self.now.done.items)) }
+    {
         let mut places = Vec::new(alloc);
-        let mut last = None;
         for change in &self.done {
-            let Change::Put(path, _, _) = change else {
-                continue;
-            };
-            let dir = path.parent_text();
-            // Those of one directory follow one another mostly.
-            if dir != last {
-                last = dir;
-                let Ok(text) = str::from_utf8(dir.unwrap_or_default()) else {
-                    continue;
-                };
-                places.push(self.top_place(alloc, text)?)?;
-            }
+            self.note_dir(alloc, &mut places, change)?;
         }
         Ok(places)
     }
 
-    /// Waits until the names in these directories are on the disk.
-    fn sync_each(&mut self, places: &[PathBuf]) -> io::Result<()>
-        ensures kept { steps_of self.new.done.items ≡ steps_of self.old.done.items }
-        ensures top { self.new.top ≡ self.old.top }
-        ensures tag { self.new.tag ≡ self.old.tag }
+    /// The places of the directories whose names are waited for before the run ends.
+    fn dirs_to_wait_for(&self, alloc: Global) -> io::Result<Vec<PathBuf>>
+        ensures { IfOk result (λ places. self.now.access ≡ StoreSynced →
+            AllByRecursion (HasDirOf self.now.top.now (map path_buf_bytes places.items)) (steps_of self.now.done.items)) }
     {
-        for place in places {
-            self.wait_for(place)?;
+        if self.access == Access::StoreSynced {
+            return self.dirs_of_puts(alloc);
         }
-        Ok(())
+        Ok(Vec::new(alloc))
     }
 
-    /// Waits until the names in a directory are on the disk.
-    fn wait_for(&mut self, place: &PathBuf) -> io::Result<()>
-        ensures kept { steps_of self.new.done.items ≡ steps_of self.old.done.items }
-        ensures top { self.new.top ≡ self.old.top }
-        ensures tag { self.new.tag ≡ self.old.tag }
-    {
-        sync_names(&mut self.calls, place)
-    }
-
-    /// Where the system has a path of the tree.
-    fn place(&self, alloc: Global, path: &Path) -> io::Result<PathBuf>
+    /// Where the system has the path of the tree with this text.
+    fn place_of(&self, alloc: Global, path: &[u8]) -> io::Result<PathBuf>
         ensures { IfOk result (λ place. path_buf_bytes place ≡ path_join self.now.top.now path.now) }
     {
-        let Ok(text) = str::from_utf8(path.text()) else {
+        let Ok(text) = str::from_utf8(path) else {
             return Err(io::Error::from(ErrorKind::InvalidFilename));
         };
-        Ok(SystemPath::new(self.top).join(alloc, text)?)
+        self.top_place(alloc, text)
     }
 
-    /// Whether a file is waited for until it is on the disk before it gets this name.
-    fn waits_for(&self, path: &Path) -> bool
-        ensures { path.now ≡ book_path → result ≡ true }
+    /// Whether a file has to be on the disk before it gets this name. A book that was recovered is the only one once the
+    /// journal is gone.
+    fn must_be_synced(&self, path: &Path) -> bool
+        ensures { MustBeSynced self.now.access path.now → result ≡ true }
     {
-        // A book that was recovered is the only one once the journal is gone.
         self.access == Access::StoreSynced || path.text() == BOOK
     }
 
@@ -245,8 +254,10 @@ impl<'a, C: Calls> SystemDir<'a, C> {
         Ok(())
     }
 
-    /// Makes the journal the book, and notes that.
-    fn take_over(&mut self, journal: &PathBuf, book: &PathBuf) -> io::Result<()>
+    /// Makes the journal the book, once the names in these directories are on the disk, and notes that.
+    fn take_over(&mut self, dirs: &[PathBuf], journal: &PathBuf, book: &PathBuf) -> io::Result<()>
+        requires dirs { self.old.access ≡ StoreSynced →
+            AllByRecursion (HasDirOf self.old.top.now (map path_buf_bytes dirs.now)) (steps_of self.old.done.items) }
         requires journal { path_buf_bytes journal.now ≡ path_join self.old.top.now journal_path }
         requires book { path_buf_bytes book.now ≡ path_join self.old.top.now book_path }
         ensures finished { OnOk result (steps_of self.new.done.items ≡ steps_of self.old.done.items ++ Finishes ∷ []) }
@@ -254,6 +265,7 @@ impl<'a, C: Calls> SystemDir<'a, C> {
         ensures tag { self.new.tag ≡ self.old.tag }
     {
         self.done.reserve(1)?;
+        sync_each(&mut self.calls, dirs)?;
         self.calls.rename(journal, book)?;
         note(&mut self.done, Change::Finish);
         Ok(())
@@ -286,7 +298,8 @@ impl<'a, C: Calls> SystemDir<'a, C> {
 
     /// Gives a draft its name, whatever has it, and notes that.
     fn name_over(&mut self, draft: &SystemDraft<'_, C>) -> io::Result<()>
-        requires { draft.now.top.now ≡ self.old.top.now }
+        requires top { draft.now.top.now ≡ self.old.top.now }
+        requires synced { MustBeSynced self.old.access draft.now.path → draft.now.synced ≡ true }
         ensures stored { OnOk result (steps_of self.new.done.items ≡
             steps_of self.old.done.items ++ Puts draft.now.path draft.now.content true ∷ []) }
         ensures kept { OnErr result (steps_of self.new.done.items ≡ steps_of self.old.done.items) }
@@ -302,7 +315,8 @@ impl<'a, C: Calls> SystemDir<'a, C> {
 
     /// Gives a draft its name where neither a file nor a directory has it, and notes that.
     fn name_new(&mut self, draft: &SystemDraft<'_, C>) -> io::Result<()>
-        requires { draft.now.top.now ≡ self.old.top.now }
+        requires top { draft.now.top.now ≡ self.old.top.now }
+        requires synced { MustBeSynced self.old.access draft.now.path → draft.now.synced ≡ true }
         ensures stored { OnOk result (steps_of self.new.done.items ≡
             steps_of self.old.done.items ++ Puts draft.now.path draft.now.content false ∷ []) }
         ensures kept { OnErr result (steps_of self.new.done.items ≡ steps_of self.old.done.items) }
@@ -323,7 +337,7 @@ impl<'a, C: Calls> SystemDir<'a, C> {
         ensures kept { OnErr result (steps_of self.new.done.items ≡ steps_of self.old.done.items) }
         ensures tag { self.new.tag ≡ self.old.tag }
     {
-        if draft.top != self.top {
+        if draft.top != self.top || !draft.synced && self.must_be_synced(&draft.path) {
             return Err(io::Error::from(ErrorKind::InvalidInput));
         }
         if over {
@@ -353,12 +367,12 @@ impl<'a, C: Calls> WorkDir for SystemDir<'a, C> {
     type Draft = SystemDraft<'a, C>;
 
     fn list(&self, alloc: Global, dir: &Path) -> io::Result<Vec<Option<String>>> {
-        let place = self.place(alloc, dir)?;
+        let place = self.place_of(alloc, dir.text())?;
         self.calls.list(alloc, &place)
     }
 
     fn look(&self, alloc: Global, path: &Path) -> io::Result<Seen> {
-        let place = self.place(alloc, path)?;
+        let place = self.place_of(alloc, path.text())?;
         let about = self.calls.look(&place)?;
         read_seen(&self.calls, alloc, &place, &about)
     }
@@ -387,13 +401,10 @@ impl<'a, C: Calls> WorkDir for SystemDir<'a, C> {
 
     fn finish(&mut self, alloc: Global) -> io::Result<()> {
         self.check_writable()?;
-        if self.access == Access::StoreSynced {
-            let places = self.dirs_of_puts(alloc)?;
-            self.sync_each(&places)?;
-        }
+        let dirs = self.dirs_to_wait_for(alloc)?;
         let journal = self.top_place(alloc, JOURNAL_NAME)?;
         let book = self.top_place(alloc, BOOK_NAME)?;
-        self.take_over(&journal, &book)
+        self.take_over(&dirs, &journal, &book)
     }
 
     fn draft(
@@ -407,10 +418,10 @@ impl<'a, C: Calls> WorkDir for SystemDir<'a, C> {
         if path.text() == JOURNAL {
             return Err(io::Error::from(ErrorKind::InvalidFilename));
         }
-        let place = self.place(alloc, path)?;
+        let place = self.place_of(alloc, path.text())?;
         let name = self.temporary_name(alloc, number)?;
         let beside = place_beside(alloc, &place, &name)?;
-        let synced = self.waits_for(path);
+        let synced = self.must_be_synced(path);
         let new = NewContent {
             bytes: content.bytes(),
             permissions: permissions_at(&self.calls, &place)?,
@@ -427,6 +438,7 @@ impl<'a, C: Calls> WorkDir for SystemDir<'a, C> {
             beside,
             name,
             file,
+            synced,
         })
     }
 
@@ -440,7 +452,7 @@ impl<'a, C: Calls> WorkDir for SystemDir<'a, C> {
 
     fn remove(&mut self, alloc: Global, path: &Path) -> io::Result<()> {
         self.check_writable()?;
-        let place = self.place(alloc, path)?;
+        let place = self.place_of(alloc, path.text())?;
         if path.text() == JOURNAL {
             let top = self.top_place(alloc, "")?;
             return self.take_journal_away(&place, &top, path);

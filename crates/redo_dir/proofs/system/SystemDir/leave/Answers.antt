@@ -11,15 +11,17 @@ use Rattle.redo_dir.proofs.system.SystemDir.leave.Goals as goal
 pub invariant_of-self : goal.invariant_of-self
 invariant_of-self g c =
     let A = g.C.Calls.after in
+    let access = c.args.self.now.access in
     let top = c.args.self.now.top.now in
     let old = c.args.self.now.calls in
     let steps = steps_of c.args.self.now.done.items in
     let same : steps_of c.reserve.new.self.items ≡ steps_of c.args.self.now.done.items = search rules in
-    record { told = told_same A top old steps (steps_of c.reserve.new.self.items) c.args.self.now.told same }
+    record { told = told_same A access top old steps (steps_of c.reserve.new.self.items) c.args.self.now.told same }
 
 pub invariant_of-self-in-Err : goal.invariant_of-self-in-Err
 invariant_of-self-in-Err g c =
     let A = g.C.Calls.after in
+    let access = c.args.self.now.access in
     let top = c.args.self.now.top.now in
     let old = c.args.self.now.calls in
     let steps = steps_of c.args.self.now.done.items in
@@ -32,11 +34,12 @@ invariant_of-self-in-Err g c =
     let s : Follows A c.keep.new.self (Syncs (path_join top []) answer ∷ []) c.sync_names.new.calls = subst (λ p. Follows A c.keep.new.self (Syncs p answer ∷ []) c.sync_names.new.calls) c.requires.top c.sync_names.ensures.1 in
     let w : is_waited_for answer ≡ false = search rules in
     let gone : OnOk c.unlink-removed.result (Follows A c.sync_names.new.calls (Unlinks j ∷ []) c.unlink-removed.new.self) = subst (λ p. OnOk c.unlink-removed.result (Follows A c.sync_names.new.calls (Unlinks p ∷ []) c.unlink-removed.new.self)) c.requires.place c.unlink-removed.ensures.unlinked in
-    record { told = told_undone A top old c.keep.new.self c.sync_names.new.calls c.unlink-removed.new.self text answer steps (steps_of c.reserve.new.self.items) c.unlink-removed.result c.args.self.now.told f s w gone c.unlink-removed.ensures.kept same }
+    record { told = told_undone A access top old c.keep.new.self c.sync_names.new.calls c.unlink-removed.new.self text answer steps (steps_of c.reserve.new.self.items) c.unlink-removed.result c.args.self.now.told f s w gone c.unlink-removed.ensures.kept same }
 
 pub invariant_of-self-2 : goal.invariant_of-self-2
 invariant_of-self-2 g c =
     let A = g.C.Calls.after in
+    let access = c.args.self.now.access in
     let top = c.args.self.now.top.now in
     let old = c.args.self.now.calls in
     let steps = steps_of c.args.self.now.done.items in
@@ -49,5 +52,5 @@ invariant_of-self-2 g c =
     let w : is_waited_for answer ≡ true = search rules in
     let more : steps_of c.note.new.done.items ≡ steps ++ Journals text ∷ [] = search rules in
     let calls = Stays j text true ∷ Syncs (path_join top []) answer ∷ [] in
-    let part : IsPart top calls (Journals text ∷ []) = (answer, w, refl) in
-    record { told = told_more A top old c.sync_names.new.calls calls steps (Journals text ∷ []) (steps_of c.note.new.done.items) c.args.self.now.told (follows_both A old c.keep.new.self c.sync_names.new.calls (Stays j text true ∷ []) (Syncs (path_join top []) answer ∷ []) f s) part more }
+    let part : IsPart access top steps calls (Journals text ∷ []) = (answer, w, refl) in
+    record { told = told_more A access top old c.sync_names.new.calls calls steps (Journals text ∷ []) (steps_of c.note.new.done.items) c.args.self.now.told (follows_both A old c.keep.new.self c.sync_names.new.calls (Stays j text true ∷ []) (Syncs (path_join top []) answer ∷ []) f s) part more }
