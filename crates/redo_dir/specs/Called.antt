@@ -8,7 +8,7 @@ use Rattle.std.specs.declared.io.ErrorKind.{ErrorKind}
 use Rattle.std.specs.declared.io.ErrorKind.TheVariants.{InvalidInput, NotFound, Unsupported}
 use Rattle.redo_dir.specs.Stored.{Step, Finishes, Journals, Puts, Removes}
 use Rattle.redo_dir.specs.declared.access.Access.{Access}
-use Rattle.redo_dir.specs.declared.access.Access.TheVariants.{StoreSynced}
+use Rattle.redo_dir.specs.declared.access.Access.TheVariants.{Read, StoreSynced}
 use Rattle.redo_path.specs.Names.{parent_of}
 use Rattle.redo_tree.specs.Tree.{Node, Directory, File}
 use Rattle.redo_which.specs.Candidates.{book_path, journal_path}
@@ -112,10 +112,10 @@ IsPart access top before calls [] = AllByRecursion IsIdle calls ⊎ IsUndone top
 IsPart access top before calls (step ∷ []) = IsStep access top before calls step
 IsPart access top before calls (step ∷ more ∷ steps) = ⊥
 
--- parts, one behind another
+-- parts, one behind another; where a directory is read alone there are none
 abbrev pub AreParts : Access → List ℕ → List Step → List (List Call × List Step) → Type 0
 AreParts access top before [] = Unit {0}
-AreParts access top before (p ∷ ps) = IsPart access top before p.0 p.1 × AreParts access top (before ++ p.1) ps
+AreParts access top before (p ∷ ps) = (access ≢ Read) × IsPart access top before p.0 p.1 × AreParts access top (before ++ p.1) ps
 
 abbrev pub calls_in : List (List Call × List Step) → List Call
 calls_in [] = []

@@ -5,7 +5,7 @@ ghost use Rattle.std.specs.List.{AllByRecursion};
 ghost use Rattle.std.specs.Prelude.{◌≡◌, ◌≢◌, ◌++◌, ◌∷◌, ◌<◌, [], Contains, IfOk, OnErr, OnOk, false, map, string_bytes, true, vec_capacity, vec_len};
 ghost use Rattle.redo_dir.specs.Called.{HasDone, MustBeSynced};
 ghost use Rattle.redo_dir.specs.inside.Waiting.{AreAmong, HasDirOf};
-ghost use Rattle.redo_dir.specs.declared.access.Access.TheVariants.{StoreSynced};
+ghost use Rattle.redo_dir.specs.declared.access.Access.TheVariants.{Read, StoreSynced};
 ghost use Rattle.redo_dir.specs.Stored.{Finishes, IsNamed, Journals, Puts, Removes, put_of, step_of, steps_of};
 ghost use Rattle.redo_which.specs.Candidates.{book_path, journal_path};
 
@@ -141,7 +141,9 @@ impl<'a, C: Calls> SystemDir<'a, C> {
     }
 
     /// Refuses a change of a directory that is read alone.
-    fn check_writable(&self) -> io::Result<()> {
+    fn check_writable(&self) -> io::Result<()>
+        ensures { OnOk result (self.now.access ≢ Read) }
+    {
         match self.access {
             Access::Read => Err(io::Error::from(ErrorKind::PermissionDenied)),
             Access::Store | Access::StoreSynced => Ok(()),
@@ -224,6 +226,7 @@ impl<'a, C: Calls> SystemDir<'a, C> {
 
     /// Takes a name away, and notes that.
     fn take_away(&mut self, place: &PathBuf, path: &Path) -> io::Result<()>
+        requires writable { self.old.access ≢ Read }
         requires place { path_buf_bytes place.now ≡ path_join self.old.top.now path.now }
         requires other { path.now ≢ journal_path }
         ensures removed { OnOk result (steps_of self.new.done.items ≡ steps_of self.old.done.items ++ Removes path.now ∷ []) }
@@ -239,6 +242,7 @@ impl<'a, C: Calls> SystemDir<'a, C> {
 
     /// Takes the journal away, and notes that. The book that was recovered by it has its name on the disk before.
     fn take_journal_away(&mut self, place: &PathBuf, top: &PathBuf, path: &Path) -> io::Result<()>
+        requires writable { self.old.access ≢ Read }
         requires place { path_buf_bytes place.now ≡ path_join self.old.top.now path.now }
         requires top { path_buf_bytes top.now ≡ path_join self.old.top.now [] }
         requires journal { path.now ≡ journal_path }
@@ -256,6 +260,7 @@ impl<'a, C: Calls> SystemDir<'a, C> {
 
     /// Makes the journal the book, once the names in these directories are on the disk, and notes that.
     fn take_over(&mut self, dirs: &[PathBuf], journal: &PathBuf, book: &PathBuf) -> io::Result<()>
+        requires writable { self.old.access ≢ Read }
         requires dirs { self.old.access ≡ StoreSynced →
             AllByRecursion (HasDirOf self.old.top.now (map path_buf_bytes dirs.now)) (steps_of self.old.done.items) }
         requires journal { path_buf_bytes journal.now ≡ path_join self.old.top.now journal_path }
@@ -279,6 +284,7 @@ impl<'a, C: Calls> SystemDir<'a, C> {
         top: &PathBuf,
         text: &Content,
     ) -> io::Result<()>
+        requires writable { self.old.access ≢ Read }
         requires written { C.Closed.holds file.now (path_buf_bytes place.now) text.now true }
         requires place { path_buf_bytes place.now ≡ path_join self.old.top.now journal_path }
         requires top { path_buf_bytes top.now ≡ path_join self.old.top.now [] }
@@ -298,6 +304,7 @@ impl<'a, C: Calls> SystemDir<'a, C> {
 
     /// Gives a draft its name, whatever has it, and notes that.
     fn name_over(&mut self, draft: &SystemDraft<'_, C>) -> io::Result<()>
+        requires writable { self.old.access ≢ Read }
         requires top { draft.now.top.now ≡ self.old.top.now }
         requires synced { MustBeSynced self.old.access draft.now.path → draft.now.synced ≡ true }
         ensures stored { OnOk result (steps_of self.new.done.items ≡
@@ -315,6 +322,7 @@ impl<'a, C: Calls> SystemDir<'a, C> {
 
     /// Gives a draft its name where neither a file nor a directory has it, and notes that.
     fn name_new(&mut self, draft: &SystemDraft<'_, C>) -> io::Result<()>
+        requires writable { self.old.access ≢ Read }
         requires top { draft.now.top.now ≡ self.old.top.now }
         requires synced { MustBeSynced self.old.access draft.now.path → draft.now.synced ≡ true }
         ensures stored { OnOk result (steps_of self.new.done.items ≡
@@ -337,6 +345,7 @@ impl<'a, C: Calls> SystemDir<'a, C> {
         ensures kept { OnErr result (steps_of self.new.done.items ≡ steps_of self.old.done.items) }
         ensures tag { self.new.tag ≡ self.old.tag }
     {
+        self.check_writable()?;
         if draft.top != self.top || !draft.synced && self.must_be_synced(&draft.path) {
             return Err(io::Error::from(ErrorKind::InvalidInput));
         }

@@ -34,7 +34,7 @@ invariant_of-self-in-Err g c =
     let s : Follows A c.keep.new.self (Syncs (path_join top []) answer ∷ []) c.sync_names.new.calls = subst (λ p. Follows A c.keep.new.self (Syncs p answer ∷ []) c.sync_names.new.calls) c.requires.top c.sync_names.ensures.1 in
     let w : is_waited_for answer ≡ false = search rules in
     let gone : OnOk c.unlink-removed.result (Follows A c.sync_names.new.calls (Unlinks j ∷ []) c.unlink-removed.new.self) = subst (λ p. OnOk c.unlink-removed.result (Follows A c.sync_names.new.calls (Unlinks p ∷ []) c.unlink-removed.new.self)) c.requires.place c.unlink-removed.ensures.unlinked in
-    record { told = told_undone A access top old c.keep.new.self c.sync_names.new.calls c.unlink-removed.new.self text answer steps (steps_of c.reserve.new.self.items) c.unlink-removed.result c.args.self.now.told f s w gone c.unlink-removed.ensures.kept same }
+    record { told = told_undone A access top old c.keep.new.self c.sync_names.new.calls c.unlink-removed.new.self text answer steps (steps_of c.reserve.new.self.items) c.unlink-removed.result c.requires.writable c.args.self.now.told f s w gone c.unlink-removed.ensures.kept same }
 
 pub invariant_of-self-2 : goal.invariant_of-self-2
 invariant_of-self-2 g c =
@@ -53,4 +53,4 @@ invariant_of-self-2 g c =
     let more : steps_of c.note.new.done.items ≡ steps ++ Journals text ∷ [] = search rules in
     let calls = Stays j text true ∷ Syncs (path_join top []) answer ∷ [] in
     let part : IsPart access top steps calls (Journals text ∷ []) = (answer, w, refl) in
-    record { told = told_more A access top old c.sync_names.new.calls calls steps (Journals text ∷ []) (steps_of c.note.new.done.items) c.args.self.now.told (follows_both A old c.keep.new.self c.sync_names.new.calls (Stays j text true ∷ []) (Syncs (path_join top []) answer ∷ []) f s) part more }
+    record { told = told_more A access top old c.sync_names.new.calls calls steps (Journals text ∷ []) (steps_of c.note.new.done.items) c.requires.writable c.args.self.now.told (follows_both A old c.keep.new.self c.sync_names.new.calls (Stays j text true ∷ []) (Syncs (path_join top []) answer ∷ []) f s) part more }

@@ -46,5 +46,5 @@ invariant_of-self-2 g c =
       told = ∥∥₁_elim D.written ∥∥₁_prop (λ (w : g.C.Closed.ClosedFile.holds D.file beside D.content D.synced).
           let f : Follows A old (Names beside D.content D.synced (path_buf_bytes D.place) ∷ []) c.name.new.self = c.in_ok-name.ensures.named D.content D.synced w in
           let part : IsPart access top steps (Names beside D.content D.synced (path_buf_bytes D.place) ∷ []) (Puts D.path D.content true ∷ []) = (beside, D.synced, c.requires.synced, ap (λ p. Names beside D.content D.synced p ∷ []) at) in
-          told_more A access top old c.name.new.self (Names beside D.content D.synced (path_buf_bytes D.place) ∷ []) steps (Puts D.path D.content true ∷ []) (steps_of c.note.new.done.items) c.args.self.now.told f part more);
+          told_more A access top old c.name.new.self (Names beside D.content D.synced (path_buf_bytes D.place) ∷ []) steps (Puts D.path D.content true ∷ []) (steps_of c.note.new.done.items) c.requires.writable c.args.self.now.told f part more);
     }

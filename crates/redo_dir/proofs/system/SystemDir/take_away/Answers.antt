@@ -23,4 +23,4 @@ invariant_of-self-2 g c =
     let more : steps_of c.note.new.done.items ≡ steps_of c.args.self.now.done.items ++ Removes path ∷ [] = search rules in
     let gone : Follows g.C.Calls.after c.args.self.now.calls (Unlinks (path_buf_bytes c.args.place.now) ∷ []) c.unlink.new.self = search rules in
     let part : IsPart c.args.self.now.access c.args.self.now.top.now (steps_of c.args.self.now.done.items) (Unlinks (path_buf_bytes c.args.place.now) ∷ []) (Removes path ∷ []) = inl (c.requires.other, ap (λ p. Unlinks p ∷ []) c.requires.place) in
-    record { told = told_more g.C.Calls.after c.args.self.now.access c.args.self.now.top.now c.args.self.now.calls c.unlink.new.self (Unlinks (path_buf_bytes c.args.place.now) ∷ []) (steps_of c.args.self.now.done.items) (Removes path ∷ []) (steps_of c.note.new.done.items) c.args.self.now.told gone part more }
+    record { told = told_more g.C.Calls.after c.args.self.now.access c.args.self.now.top.now c.args.self.now.calls c.unlink.new.self (Unlinks (path_buf_bytes c.args.place.now) ∷ []) (steps_of c.args.self.now.done.items) (Removes path ∷ []) (steps_of c.note.new.done.items) c.requires.writable c.args.self.now.told gone part more }

@@ -19,7 +19,7 @@ invariant_of-self-in-Break-branch-2 g c =
     let A = g.C.Calls.after in
     let idled : HasIdled A c.args.self.now.calls c.sync_each.new.calls = search rules in
     let same : steps_of c.reserve.new.self.items ≡ steps_of c.args.self.now.done.items = search rules in
-    record { told = told_idle A c.args.self.now.access c.args.self.now.top.now c.args.self.now.calls c.sync_each.new.calls idled.waits (steps_of c.args.self.now.done.items) (steps_of c.reserve.new.self.items) c.args.self.now.told idled.follows (inl idled.idle) same }
+    record { told = told_idle A c.args.self.now.access c.args.self.now.top.now c.args.self.now.calls c.sync_each.new.calls idled.waits (steps_of c.args.self.now.done.items) (steps_of c.reserve.new.self.items) c.requires.writable c.args.self.now.told idled.follows (inl idled.idle) same }
 
 pub invariant_of-self-in-Break-branch-3 : goal.invariant_of-self-in-Break-branch-3
 invariant_of-self-in-Break-branch-3 g c =
@@ -30,7 +30,7 @@ invariant_of-self-in-Break-branch-3 g c =
     let waits = waited.waits in
     let kept : Keeps A c.sync_each.new.calls c.rename.new.self = search rules in
     let f = follows_kept A old c.sync_each.new.calls c.rename.new.self waits waited.follows kept in
-    record { told = told_idle A c.args.self.now.access c.args.self.now.top.now old c.rename.new.self waits (steps_of c.args.self.now.done.items) (steps_of c.reserve.new.self.items) c.args.self.now.told f (inl waited.idle) same }
+    record { told = told_idle A c.args.self.now.access c.args.self.now.top.now old c.rename.new.self waits (steps_of c.args.self.now.done.items) (steps_of c.reserve.new.self.items) c.requires.writable c.args.self.now.told f (inl waited.idle) same }
 
 pub invariant_of-self-2 : goal.invariant_of-self-2
 invariant_of-self-2 g c =
@@ -51,4 +51,4 @@ invariant_of-self-2 g c =
       (λ e. all_waited top (map path_buf_bytes c.args.dirs.now) waits steps waited.each (c.requires.dirs e)),
       ap (λ p. waits ++ Renames p (path_buf_bytes c.args.book.now) ∷ []) c.requires.journal ∙ ap (λ p. waits ++ Renames (path_join top journal_path) p ∷ []) c.requires.book,
     ) in
-    record { told = told_more A access top old c.rename.new.self (waits ++ renames ∷ []) steps (Finishes ∷ []) (steps_of c.note.new.done.items) c.args.self.now.told f part more }
+    record { told = told_more A access top old c.rename.new.self (waits ++ renames ∷ []) steps (Finishes ∷ []) (steps_of c.note.new.done.items) c.requires.writable c.args.self.now.told f part more }
