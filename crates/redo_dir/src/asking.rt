@@ -1,12 +1,14 @@
 //! What a directory asks of the system by several calls: to read a file, to write a new one whole, to wait.
 
 ghost use Rattle.std.specs.Path.{path_buf_bytes};
-ghost use Rattle.std.specs.Prelude.{◌≡◌, ◌∷◌, [], Bool, IfOk, IfSome, List, Ok, Option, OnErr, OnOk, false, is_ok, map, true, ℕ};
+ghost use Rattle.std.specs.Prelude.{◌≡◌, ◌⊎◌, ◌∷◌, [], Bool, Err, IfErr, IfOk, IfSome, List, Ok, Option, OnErr, OnOk, Some, false, is_ok, map, true, ℕ};
 ghost use Rattle.std.specs.IoError.{error_kind};
 ghost use Rattle.std.specs.declared.io.ErrorKind.{ErrorKind};
+ghost use Rattle.std.specs.declared.io.ErrorKind.TheVariants.{AlreadyExists, OutOfMemory};
 ghost use Rattle.redo_dir.specs.Called.{Finds, Follows, Found, IsFree, LeadsTo, Syncs, answer_of, found_of, front_read, is_waited_for};
 ghost use Rattle.redo_dir.specs.inside.Waiting.{HasIdled, HasWaited};
 ghost use Rattle.redo_dir.specs.Loaded.{node_seen};
+ghost use Rattle.redo_dir.specs.Refused.{IsBrokenOff, IsFailed, IsTaken};
 
 use crate::calls::{Calls, ClosedFile, NewFile};
 use crate::work_dir::Seen;
@@ -18,8 +20,9 @@ use std::path::PathBuf;
 
 /// The bytes of a file, which had `size` of them when it was looked at. What it has grown by since isn't read.
 fn read_file<C: Calls>(calls: &C, alloc: Global, place: &PathBuf, size: u64) -> io::Result<Vec<u8>>
-    ensures { IfOk result (λ bytes. (holds : Option (List ℕ)) × C.opens calls.now (path_buf_bytes place.now) holds ×
+    ensures bytes { IfOk result (λ bytes. (holds : Option (List ℕ)) × C.opens calls.now (path_buf_bytes place.now) holds ×
         IfSome holds (λ all. bytes.items ≡ front_read size all)) }
+    ensures refused { IfErr result (λ error. (error_kind error ≡ OutOfMemory) ⊎ C.fails (path_buf_bytes place.now) (error_kind error) ⊎ IsBrokenOff (C.opens calls.now) (path_buf_bytes place.now)) }
 {
     let mut file = calls.open(place)?;
     let mut bytes = Vec::with_capacity(alloc, size as usize)?;
@@ -41,7 +44,8 @@ pub(crate) fn read_seen<C: Calls>(
     about: &Metadata,
 ) -> io::Result<Seen>
     requires { C.stands calls.now (path_buf_bytes place.now) (Ok about.now) }
-    ensures { IfOk result (λ seen. LeadsTo (C.stands calls.now) (C.opens calls.now) (path_buf_bytes place.now) (node_seen seen)) }
+    ensures seen { IfOk result (λ seen. LeadsTo (C.stands calls.now) (C.opens calls.now) (path_buf_bytes place.now) (node_seen seen)) }
+    ensures refused { IfErr result (λ error. (error_kind error ≡ OutOfMemory) ⊎ C.fails (path_buf_bytes place.now) (error_kind error) ⊎ IsBrokenOff (C.opens calls.now) (path_buf_bytes place.now)) }
 {
     if about.is_dir() {
         return Ok(Seen::Directory);
@@ -57,7 +61,9 @@ pub(crate) fn read_seen<C: Calls>(
 pub(crate) fn permissions_at<C: Calls>(
     calls: &C,
     place: &PathBuf,
-) -> io::Result<Option<Permissions>> {
+) -> io::Result<Option<Permissions>>
+    ensures { IfErr result (λ error. C.fails (path_buf_bytes place.now) (error_kind error)) }
+{
     match calls.look(place) {
         Ok(about) if about.is_file() => Ok(Some(about.permissions())),
         Ok(_) => Ok(None),
@@ -67,7 +73,9 @@ pub(crate) fn permissions_at<C: Calls>(
 }
 
 /// Gives a new file these permissions. Where it has them, the system isn't asked: some file systems know no others.
-fn permit<F: NewFile>(file: &F, permissions: Permissions) -> io::Result<()> {
+fn permit<F: NewFile>(file: &F, permissions: Permissions) -> io::Result<()>
+    ensures { IfErr result (λ error. F.fails (error_kind error)) }
+{
     if file.permissions()? == permissions {
         return Ok(());
     }
@@ -89,6 +97,7 @@ fn fill<F: NewFile>(file: &mut F, new: NewContent<'_>) -> io::Result<()>
     ensures made { (place : List ℕ) → F.made file.old place → F.made file.new place }
     ensures holds { OnOk result ((place : List ℕ) →
         F.holds file.old place [] false → F.holds file.new place new.entry.bytes.now new.entry.synced) }
+    ensures refused { IfErr result (λ error. F.fails (error_kind error)) }
 {
     if let Some(permissions) = new.permissions {
         permit(file, permissions)?;
@@ -108,6 +117,7 @@ pub(crate) fn write_new<C: Calls>(
 ) -> io::Result<C::Closed>
     ensures made { IfOk result (λ file. C.Closed.made file (path_buf_bytes place.now)) }
     ensures holds { IfOk result (λ file. C.Closed.holds file (path_buf_bytes place.now) new.entry.bytes.now new.entry.synced) }
+    ensures refused { IfErr result (λ error. IsFailed C.fails C.New.fails (error_kind error)) }
 {
     let mut open = calls.create(place)?;
     let outcome = fill(&mut open, new);
@@ -121,7 +131,8 @@ pub(crate) fn write_new<C: Calls>(
 
 /// Refuses a place that was found to have a file or a directory.
 fn free_found(found: io::Result<Metadata>) -> io::Result<()>
-    ensures { OnOk result (IsFree (found_of error_kind found)) }
+    ensures free { OnOk result (IsFree (found_of error_kind found)) }
+    ensures refused { IfErr result (λ error. ((error_kind error ≡ AlreadyExists) × IsTaken (found_of error_kind found)) ⊎ (found_of error_kind found ≡ Err (error_kind error))) }
 {
     match found {
         Ok(about) => {
@@ -139,8 +150,9 @@ fn free_found(found: io::Result<Metadata>) -> io::Result<()>
 
 /// Refuses a place where a file or a directory stands.
 pub(crate) fn check_free<C: Calls>(calls: &mut C, place: &PathBuf) -> io::Result<()>
-    ensures { (found : Found) × Follows C.after calls.old (Finds (path_buf_bytes place.now) found ∷ []) calls.new ×
+    ensures found { (found : Found) × Follows C.after calls.old (Finds (path_buf_bytes place.now) found ∷ []) calls.new ×
         OnOk result (IsFree found) }
+    ensures refused { IfErr result (λ error. C.fails (path_buf_bytes place.now) (error_kind error) ⊎ ((error_kind error ≡ AlreadyExists) × (found : Found) × C.stands calls.old (path_buf_bytes place.now) found × IsTaken found)) }
 {
     let found = calls.find(place);
     free_found(found)
@@ -148,7 +160,8 @@ pub(crate) fn check_free<C: Calls>(calls: &mut C, place: &PathBuf) -> io::Result
 
 /// A file system that can't be asked to wait for names is taken at its word.
 fn waited(answer: io::Result<()>) -> io::Result<()>
-    ensures { is_ok result ≡ is_waited_for (answer_of error_kind answer) }
+    ensures waited { is_ok result ≡ is_waited_for (answer_of error_kind answer) }
+    ensures refused { IfErr result (λ error. answer_of error_kind answer ≡ Some (error_kind error)) }
 {
     match answer {
         Ok(()) => Ok(()),
@@ -161,8 +174,9 @@ fn waited(answer: io::Result<()>) -> io::Result<()>
 
 /// Waits until the names in a directory are on the disk.
 pub(crate) fn sync_names<C: Calls>(calls: &mut C, place: &PathBuf) -> io::Result<()>
-    ensures { (answer : Option ErrorKind) × Follows C.after calls.old (Syncs (path_buf_bytes place.now) answer ∷ []) calls.new ×
+    ensures follows { (answer : Option ErrorKind) × Follows C.after calls.old (Syncs (path_buf_bytes place.now) answer ∷ []) calls.new ×
         (is_ok result ≡ is_waited_for answer) }
+    ensures refused { IfErr result (λ error. C.fails (path_buf_bytes place.now) (error_kind error)) }
 {
     let answer = calls.sync_names(place);
     waited(answer)
@@ -172,6 +186,7 @@ pub(crate) fn sync_names<C: Calls>(calls: &mut C, place: &PathBuf) -> io::Result
 pub(crate) fn sync_each<C: Calls>(calls: &mut C, places: &[PathBuf]) -> io::Result<()>
     ensures waited { OnOk result (HasWaited C.after calls.old (map path_buf_bytes places.now) calls.new) }
     ensures idle { OnErr result (HasIdled C.after calls.old calls.new) }
+    ensures refused { IfErr result (λ error. (place : List ℕ) × C.fails place (error_kind error)) }
 {
     for place in places {
         sync_names(calls, place)?;

@@ -1,6 +1,6 @@
 //! The calls of the system that a directory stands on, one function each.
 
-ghost use Rattle.std.specs.Prelude.{◌≡◌, ◌++◌, ◌∷◌, [], IfOk, List, Ok, OnErr, OnOk, true, false, Bool, ℕ};
+ghost use Rattle.std.specs.Prelude.{◌≡◌, ◌++◌, ◌∷◌, [], IfErr, IfOk, List, Ok, OnErr, OnOk, true, false, Bool, ℕ};
 ghost use Rattle.std.specs.IoError.{error_kind};
 ghost use Rattle.std.specs.Path.{path_buf_bytes};
 ghost use Rattle.redo_dir.specs.Called.{Follows, Finds, Keeps, Names, Renames, Stays, Syncs, Unlinks, answer_of, found_of};
@@ -15,25 +15,33 @@ use std::path::PathBuf;
 /// A new file of the system, which is open.
 pub trait NewFile {
     ghost use Rattle.std.specs.Prelude.{Bool, List, ℕ};
+    ghost use Rattle.std.specs.declared.io.ErrorKind.{ErrorKind};
 
     // It was made at this place, where nothing was.
     ghost made: { Self → List ℕ → Type 0 };
     // And these bytes were written to it, whole; all of them were waited for, or perhaps not.
     ghost holds: { Self → List ℕ → List ℕ → Bool → Type 0 };
 
-    fn permissions(&self) -> io::Result<Permissions>;
+    // A call on such a file was answered by this error.
+    ghost fails: { ErrorKind → Type 0 };
 
-    fn permit(&self, permissions: Permissions) -> io::Result<()>;
+    fn permissions(&self) -> io::Result<Permissions>
+        ensures { IfErr result (λ error. fails (error_kind error)) };
+
+    fn permit(&self, permissions: Permissions) -> io::Result<()>
+        ensures { IfErr result (λ error. fails (error_kind error)) };
 
     fn write(&mut self, bytes: &[u8]) -> io::Result<()>
         ensures made { (place : List ℕ) → made self.old place → made self.new place }
         ensures holds { OnOk result ((place text : List ℕ) (synced : Bool) →
-            holds self.old place text synced → holds self.new place (text ++ bytes.now) false) };
+            holds self.old place text synced → holds self.new place (text ++ bytes.now) false) }
+        ensures refused { IfErr result (λ error. fails (error_kind error)) };
 
     fn sync(&mut self) -> io::Result<()>
         ensures made { (place : List ℕ) → made self.old place → made self.new place }
         ensures holds { OnOk result ((place text : List ℕ) (synced : Bool) →
-            holds self.old place text synced → holds self.new place text true) };
+            holds self.old place text synced → holds self.new place text true) }
+        ensures refused { IfErr result (λ error. fails (error_kind error)) };
 }
 
 /// A new file of the system, which was closed.
@@ -48,6 +56,7 @@ pub trait ClosedFile {
 /// The calls of the system. None does more than its name says, and each answers what the system does.
 pub trait Calls {
     ghost use Rattle.std.specs.Prelude.{List, Option, ℕ};
+    ghost use Rattle.std.specs.declared.io.ErrorKind.{ErrorKind};
     ghost use Rattle.redo_dir.specs.Called.{Call, Found};
 
     type New: NewFile + Drop;
@@ -65,18 +74,25 @@ pub trait Calls {
     // A directory was listed, and these are its names; none stands for a name that isn't text.
     ghost lists: { Self → List ℕ → List (Option (List ℕ)) → Type 0 };
 
+    // A call at a place was answered by this error.
+    ghost fails: { List ℕ → ErrorKind → Type 0 };
+
     fn list(&self, alloc: Global, place: &PathBuf) -> io::Result<Vec<Option<String>>>
-        ensures { IfOk result (λ names. lists self.now (path_buf_bytes place.now) (names_in names.items)) };
+        ensures listed { IfOk result (λ names. lists self.now (path_buf_bytes place.now) (names_in names.items)) }
+        ensures refused { IfErr result (λ error. fails (path_buf_bytes place.now) (error_kind error)) };
 
     fn look(&self, place: &PathBuf) -> io::Result<Metadata>
-        ensures { IfOk result (λ about. stands self.now (path_buf_bytes place.now) (Ok about)) };
+        ensures found { IfOk result (λ about. stands self.now (path_buf_bytes place.now) (Ok about)) }
+        ensures refused { IfErr result (λ error. fails (path_buf_bytes place.now) (error_kind error)) };
 
     fn open(&self, place: &PathBuf) -> io::Result<Self::Source>
-        ensures { IfOk result (λ source. opens self.now (path_buf_bytes place.now) (Self.Source.remaining source)) };
+        ensures opened { IfOk result (λ source. opens self.now (path_buf_bytes place.now) (Self.Source.remaining source)) }
+        ensures refused { IfErr result (λ error. fails (path_buf_bytes place.now) (error_kind error)) };
 
     fn create(&self, place: &PathBuf) -> io::Result<Self::New>
         ensures made { IfOk result (λ file. Self.New.made file (path_buf_bytes place.now)) }
-        ensures holds { IfOk result (λ file. Self.New.holds file (path_buf_bytes place.now) [] false) };
+        ensures holds { IfOk result (λ file. Self.New.holds file (path_buf_bytes place.now) [] false) }
+        ensures refused { IfErr result (λ error. fails (path_buf_bytes place.now) (error_kind error)) };
 
     fn close(&self, file: Self::New) -> Self::Closed
         ensures made { (place : List ℕ) → Self.New.made file place → Self.Closed.made result place }
@@ -85,18 +101,22 @@ pub trait Calls {
 
     /// Takes away a new file that has no other name.
     fn discard(&self, file: &Self::Closed, place: &PathBuf) -> io::Result<()>
-        requires { ∥ Self.Closed.made file.now (path_buf_bytes place.now) ∥₁ };
+        requires { ∥ Self.Closed.made file.now (path_buf_bytes place.now) ∥₁ }
+        ensures refused { IfErr result (λ error. fails (path_buf_bytes place.now) (error_kind error)) };
 
     /// Looks at a place between two changes.
     fn find(&mut self, place: &PathBuf) -> io::Result<Metadata>
-        ensures { Follows after self.old (Finds (path_buf_bytes place.now) (found_of error_kind result) ∷ []) self.new };
+        ensures follows { Follows after self.old (Finds (path_buf_bytes place.now) (found_of error_kind result) ∷ []) self.new }
+        ensures found { IfOk result (λ about. stands self.old (path_buf_bytes place.now) (Ok about)) }
+        ensures refused { IfErr result (λ error. fails (path_buf_bytes place.now) (error_kind error)) };
 
     /// Gives a new file another name.
     fn name(&mut self, file: &Self::Closed, from: &PathBuf, to: &PathBuf) -> io::Result<()>
         ensures named { OnOk result ((text : List ℕ) (synced : Bool) →
             Self.Closed.holds file.now (path_buf_bytes from.now) text synced →
             Follows after self.old (Names (path_buf_bytes from.now) text synced (path_buf_bytes to.now) ∷ []) self.new) }
-        ensures kept { OnErr result (Keeps after self.old self.new) };
+        ensures kept { OnErr result (Keeps after self.old self.new) }
+        ensures refused { IfErr result (λ error. fails (path_buf_bytes from.now) (error_kind error)) };
 
     /// Leaves a new file where it is. The system isn't called.
     fn keep(&mut self, file: &Self::Closed, place: &PathBuf)
@@ -105,13 +125,16 @@ pub trait Calls {
 
     fn rename(&mut self, from: &PathBuf, to: &PathBuf) -> io::Result<()>
         ensures renamed { OnOk result (Follows after self.old (Renames (path_buf_bytes from.now) (path_buf_bytes to.now) ∷ []) self.new) }
-        ensures kept { OnErr result (Keeps after self.old self.new) };
+        ensures kept { OnErr result (Keeps after self.old self.new) }
+        ensures refused { IfErr result (λ error. fails (path_buf_bytes from.now) (error_kind error)) };
 
     fn unlink(&mut self, place: &PathBuf) -> io::Result<()>
         ensures unlinked { OnOk result (Follows after self.old (Unlinks (path_buf_bytes place.now) ∷ []) self.new) }
-        ensures kept { OnErr result (Keeps after self.old self.new) };
+        ensures kept { OnErr result (Keeps after self.old self.new) }
+        ensures refused { IfErr result (λ error. fails (path_buf_bytes place.now) (error_kind error)) };
 
     /// Waits until the names in a directory are on the disk.
     fn sync_names(&mut self, place: &PathBuf) -> io::Result<()>
-        ensures { Follows after self.old (Syncs (path_buf_bytes place.now) (answer_of error_kind result) ∷ []) self.new };
+        ensures follows { Follows after self.old (Syncs (path_buf_bytes place.now) (answer_of error_kind result) ∷ []) self.new }
+        ensures refused { IfErr result (λ error. fails (path_buf_bytes place.now) (error_kind error)) };
 }

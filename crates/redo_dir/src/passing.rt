@@ -35,6 +35,8 @@ impl<F: OpenFile + Write + Drop> NewFile for OpenNew<F> {
 
     ghost holds = { λ _ _ _ _. Unit {0} };
 
+    ghost fails = { λ _. Unit {0} };
+
     fn permissions(&self) -> io::Result<Permissions> {
         Ok(self.file.metadata()?.permissions())
     }
@@ -78,6 +80,8 @@ impl<R: Files> Calls for SystemCalls<'_, R> {
     ghost opens = { λ _ _ _. Unit {0} };
 
     ghost lists = { λ _ _ _. Unit {0} };
+
+    ghost fails = { λ _ _. Unit {0} };
 
     type New = OpenNew<R::File>;
 

@@ -2,8 +2,11 @@
 
 ghost use Rattle.std.specs.Path.{path_buf_bytes, path_join, path_with_file_name};
 ghost use Rattle.std.specs.List.{AllByRecursion};
-ghost use Rattle.std.specs.Prelude.{◌≡◌, ◌≢◌, ◌++◌, ◌∷◌, ◌<◌, [], Contains, IfOk, OnErr, OnOk, false, map, string_bytes, true, vec_capacity, vec_len};
+ghost use Rattle.std.specs.IoError.{error_kind};
+ghost use Rattle.std.specs.declared.io.ErrorKind.TheVariants.{InvalidFilename, OutOfMemory, PermissionDenied};
+ghost use Rattle.std.specs.Prelude.{◌≡◌, ◌≢◌, ◌⊎◌, ◌++◌, ◌∷◌, ◌<◌, [], Contains, IfErr, IfOk, IsUtf8, None, OnErr, OnOk, false, map, string_bytes, true, vec_capacity, vec_len};
 ghost use Rattle.redo_dir.specs.Called.{HasDone, MustBeSynced};
+ghost use Rattle.redo_dir.specs.Refused.{IsFailed, IsOwnError};
 ghost use Rattle.redo_dir.specs.inside.Waiting.{AreAmong, HasDirOf};
 ghost use Rattle.redo_dir.specs.declared.access.Access.TheVariants.{Read, StoreSynced};
 ghost use Rattle.redo_dir.specs.Stored.{Finishes, IsNamed, Journals, Puts, Removes, put_of, step_of, steps_of};
@@ -142,7 +145,8 @@ impl<'a, C: Calls> SystemDir<'a, C> {
 
     /// Refuses a change of a directory that is read alone.
     fn check_writable(&self) -> io::Result<()>
-        ensures { OnOk result (self.now.access ≢ Read) }
+        ensures writable { OnOk result (self.now.access ≢ Read) }
+        ensures refused { IfErr result (λ error. (error_kind error ≡ PermissionDenied) × (self.now.access ≡ Read)) }
     {
         match self.access {
             Access::Read => Err(io::Error::from(ErrorKind::PermissionDenied)),
@@ -152,14 +156,16 @@ impl<'a, C: Calls> SystemDir<'a, C> {
 
     /// Where the system has a file of the top directory.
     fn top_place(&self, alloc: Global, name: &str) -> io::Result<PathBuf>
-        ensures { IfOk result (λ place. path_buf_bytes place ≡ path_join self.now.top.now name.now) }
+        ensures place { IfOk result (λ place. path_buf_bytes place ≡ path_join self.now.top.now name.now) }
+        ensures refused { IfErr result (λ error. error_kind error ≡ OutOfMemory) }
     {
         Ok(SystemPath::new(self.top).join(alloc, name)?)
     }
 
     /// The name of the temporary file with this number.
     fn temporary_name(&self, alloc: Global, number: u64) -> io::Result<String>
-        ensures { IfOk result (λ name. IsNamed self.now.tag number (string_bytes name)) }
+        ensures named { IfOk result (λ name. IsNamed self.now.tag number (string_bytes name)) }
+        ensures refused { IfErr result (λ error. (error_kind error ≡ OutOfMemory) ⊎ ((error_kind error ≡ PermissionDenied) × (self.now.tag ≡ None))) }
     {
         match &self.tag {
             Some(tag) => Ok(tag.name(alloc, number)?),
@@ -171,6 +177,7 @@ impl<'a, C: Calls> SystemDir<'a, C> {
     fn note_dir(&self, alloc: Global, places: &mut Vec<PathBuf>, change: &Change) -> io::Result<()>
         ensures kept { AreAmong (map path_buf_bytes places.old.items) (map path_buf_bytes places.new.items) }
         ensures noted { OnOk result (HasDirOf self.now.top.now (map path_buf_bytes places.new.items) (step_of change.now)) }
+        ensures refused { IfErr result (λ error. (error_kind error ≡ OutOfMemory) ⊎ (error_kind error ≡ InvalidFilename)) }
     {
         let Change::Put(path, _, _) = change else {
             return Ok(());
@@ -185,8 +192,9 @@ impl<'a, C: Calls> SystemDir<'a, C> {
 
     /// The places of the directories of all files that were put.
     fn dirs_of_puts(&self, alloc: Global) -> io::Result<Vec<PathBuf>>
-        ensures { IfOk result (λ places.
+        ensures dirs { IfOk result (λ places.
             AllByRecursion (HasDirOf self.now.top.now (map path_buf_bytes places.items)) (steps_of self.now.done.items)) }
+        ensures refused { IfErr result (λ error. (error_kind error ≡ OutOfMemory) ⊎ (error_kind error ≡ InvalidFilename)) }
     {
         let mut places = Vec::new(alloc);
         for change in &self.done {
@@ -197,8 +205,9 @@ impl<'a, C: Calls> SystemDir<'a, C> {
 
     /// The places of the directories whose names are waited for before the run ends.
     fn dirs_to_wait_for(&self, alloc: Global) -> io::Result<Vec<PathBuf>>
-        ensures { IfOk result (λ places. self.now.access ≡ StoreSynced →
+        ensures dirs { IfOk result (λ places. self.now.access ≡ StoreSynced →
             AllByRecursion (HasDirOf self.now.top.now (map path_buf_bytes places.items)) (steps_of self.now.done.items)) }
+        ensures refused { IfErr result (λ error. (error_kind error ≡ OutOfMemory) ⊎ (error_kind error ≡ InvalidFilename)) }
     {
         if self.access == Access::StoreSynced {
             return self.dirs_of_puts(alloc);
@@ -208,7 +217,8 @@ impl<'a, C: Calls> SystemDir<'a, C> {
 
     /// Where the system has the path of the tree with this text.
     fn place_of(&self, alloc: Global, path: &[u8]) -> io::Result<PathBuf>
-        ensures { IfOk result (λ place. path_buf_bytes place ≡ path_join self.now.top.now path.now) }
+        ensures place { IfOk result (λ place. path_buf_bytes place ≡ path_join self.now.top.now path.now) }
+        ensures refused { IfErr result (λ error. (error_kind error ≡ OutOfMemory) ⊎ ((error_kind error ≡ InvalidFilename) × (IsUtf8 path.now → ⊥))) }
     {
         let Ok(text) = str::from_utf8(path) else {
             return Err(io::Error::from(ErrorKind::InvalidFilename));
@@ -232,6 +242,7 @@ impl<'a, C: Calls> SystemDir<'a, C> {
         ensures removed { OnOk result (steps_of self.new.done.items ≡ steps_of self.old.done.items ++ Removes path.now ∷ []) }
         ensures kept { OnErr result (steps_of self.new.done.items ≡ steps_of self.old.done.items) }
         ensures tag { self.new.tag ≡ self.old.tag }
+        ensures refused { IfErr result (λ error. IsFailed C.fails C.New.fails (error_kind error)) }
     {
         let change = Change::Remove(path.clone()?);
         self.done.reserve(1)?;
@@ -249,6 +260,7 @@ impl<'a, C: Calls> SystemDir<'a, C> {
         ensures removed { OnOk result (steps_of self.new.done.items ≡ steps_of self.old.done.items ++ Removes path.now ∷ []) }
         ensures kept { OnErr result (steps_of self.new.done.items ≡ steps_of self.old.done.items) }
         ensures tag { self.new.tag ≡ self.old.tag }
+        ensures refused { IfErr result (λ error. IsFailed C.fails C.New.fails (error_kind error)) }
     {
         let change = Change::Remove(path.clone()?);
         self.done.reserve(1)?;
@@ -268,6 +280,7 @@ impl<'a, C: Calls> SystemDir<'a, C> {
         ensures finished { OnOk result (steps_of self.new.done.items ≡ steps_of self.old.done.items ++ Finishes ∷ []) }
         ensures kept { OnErr result (steps_of self.new.done.items ≡ steps_of self.old.done.items) }
         ensures tag { self.new.tag ≡ self.old.tag }
+        ensures refused { IfErr result (λ error. IsFailed C.fails C.New.fails (error_kind error)) }
     {
         self.done.reserve(1)?;
         sync_each(&mut self.calls, dirs)?;
@@ -290,6 +303,7 @@ impl<'a, C: Calls> SystemDir<'a, C> {
         requires top { path_buf_bytes top.now ≡ path_join self.old.top.now [] }
         ensures journal { OnOk result (steps_of self.new.done.items ≡ steps_of self.old.done.items ++ Journals text.now ∷ []) }
         ensures kept { OnErr result (steps_of self.new.done.items ≡ steps_of self.old.done.items) }
+        ensures refused { IfErr result (λ error. IsFailed C.fails C.New.fails (error_kind error)) }
     {
         let change = Change::Journal(text.clone()?);
         self.done.reserve(1)?;
@@ -311,6 +325,7 @@ impl<'a, C: Calls> SystemDir<'a, C> {
             steps_of self.old.done.items ++ Puts draft.now.path draft.now.content true ∷ []) }
         ensures kept { OnErr result (steps_of self.new.done.items ≡ steps_of self.old.done.items) }
         ensures tag { self.new.tag ≡ self.old.tag }
+        ensures refused { IfErr result (λ error. IsFailed C.fails C.New.fails (error_kind error)) }
     {
         let change = Change::Put(draft.path.clone()?, draft.content.clone()?, true);
         // So that no file gets a name that can't be noted.
@@ -329,6 +344,7 @@ impl<'a, C: Calls> SystemDir<'a, C> {
             steps_of self.old.done.items ++ Puts draft.now.path draft.now.content false ∷ []) }
         ensures kept { OnErr result (steps_of self.new.done.items ≡ steps_of self.old.done.items) }
         ensures tag { self.new.tag ≡ self.old.tag }
+        ensures refused { IfErr result (λ error. IsOwnError (C.stands self.old.calls) self.old.access self.old.tag draft.now.path (error_kind error) ⊎ IsFailed C.fails C.New.fails (error_kind error)) }
     {
         let change = Change::Put(draft.path.clone()?, draft.content.clone()?, false);
         self.done.reserve(1)?;
@@ -344,6 +360,7 @@ impl<'a, C: Calls> SystemDir<'a, C> {
             steps_of self.old.done.items ++ put_of (draft.now.path, draft.now.content) over ∷ []) }
         ensures kept { OnErr result (steps_of self.new.done.items ≡ steps_of self.old.done.items) }
         ensures tag { self.new.tag ≡ self.old.tag }
+        ensures refused { IfErr result (λ error. IsOwnError (C.stands self.old.calls) self.old.access self.old.tag draft.now.path (error_kind error) ⊎ IsFailed C.fails C.New.fails (error_kind error)) }
     {
         self.check_writable()?;
         if draft.top != self.top || !draft.synced && self.must_be_synced(&draft.path) {
@@ -361,13 +378,15 @@ impl<'a, C: Calls> WorkDir for SystemDir<'a, C> {
     ghost use Rattle.std.specs.Prelude.{option_map};
     ghost use Rattle.std.specs.Path.{path_join};
     ghost use Rattle.redo_dir.specs.Called.{LeadsTo};
+    ghost use Rattle.redo_dir.specs.Refused.{IsBrokenOff, IsFailed, IsOwnError};
     ghost use Rattle.redo_dir.specs.Stored.{steps_of};
 
     ghost lists = { λ d dir. C.lists d.calls (path_join d.top.now dir) };
 
     ghost leads = { λ d path. LeadsTo (C.stands d.calls) (C.opens d.calls) (path_join d.top.now path) };
 
-    ghost refuses = { λ _ _ _. Unit {0} };
+    ghost refuses = { λ d path kind. IsOwnError (C.stands d.calls) d.access d.tag path kind ⊎
+        IsFailed C.fails C.New.fails kind ⊎ IsBrokenOff (C.opens d.calls) (path_join d.top.now path) };
 
     ghost done = { λ d. steps_of d.done.items };
 

@@ -26,8 +26,8 @@ invariant_of-self-in-Break-branch-4 g c =
     let old = c.args.self.now.calls in
     let steps = steps_of c.args.self.now.done.items in
     let same : steps_of c.reserve.new.self.items ≡ steps_of c.args.self.now.done.items = search rules in
-    let found = c.check_free.ensures.0 in
-    record { told = told_idle A access top old c.check_free.new.calls (Finds (path_buf_bytes c.args.draft.now.place) found ∷ []) steps (steps_of c.reserve.new.self.items) c.requires.writable c.args.self.now.told c.check_free.ensures.1 (inl (tt, tt)) same }
+    let found = c.check_free.ensures.found.0 in
+    record { told = told_idle A access top old c.check_free.new.calls (Finds (path_buf_bytes c.args.draft.now.place) found ∷ []) steps (steps_of c.reserve.new.self.items) c.requires.writable c.args.self.now.told c.check_free.ensures.found.1 (inl (tt, tt)) same }
 
 pub invariant_of-self-in-Break-branch-5 : goal.invariant_of-self-in-Break-branch-5
 invariant_of-self-in-Break-branch-5 g c =
@@ -37,9 +37,9 @@ invariant_of-self-in-Break-branch-5 g c =
     let old = c.args.self.now.calls in
     let steps = steps_of c.args.self.now.done.items in
     let same : steps_of c.reserve.new.self.items ≡ steps_of c.args.self.now.done.items = search rules in
-    let found = c.check_free.ensures.0 in
+    let found = c.check_free.ensures.found.0 in
     let kept : Keeps A c.check_free.new.calls c.name.new.self = search rules in
-    let f = follows_kept A old c.check_free.new.calls c.name.new.self (Finds (path_buf_bytes c.args.draft.now.place) found ∷ []) c.check_free.ensures.1 kept in
+    let f = follows_kept A old c.check_free.new.calls c.name.new.self (Finds (path_buf_bytes c.args.draft.now.place) found ∷ []) c.check_free.ensures.found.1 kept in
     record { told = told_idle A access top old c.name.new.self (Finds (path_buf_bytes c.args.draft.now.place) found ∷ []) steps (steps_of c.reserve.new.self.items) c.requires.writable c.args.self.now.told f (inl (tt, tt)) same }
 
 pub invariant_of-self-2 : goal.invariant_of-self-2
@@ -54,14 +54,14 @@ invariant_of-self-2 g c =
     let beside = path_buf_bytes D.beside in
     let place = path_join top D.path in
     let at : path_buf_bytes D.place ≡ place = D.placed ∙ ap (λ t. path_join t D.path) c.requires.top in
-    let found = c.check_free.ensures.0 in
+    let found = c.check_free.ensures.found.0 in
     let free : IsFree found = search rules in
     let more : steps_of c.note.new.done.items ≡ steps ++ Puts D.path D.content false ∷ [] = search rules in
     record {
       told = ∥∥₁_elim D.written ∥∥₁_prop (λ (w : g.C.Closed.ClosedFile.holds D.file beside D.content D.synced).
           let calls = Finds (path_buf_bytes D.place) found ∷ Names beside D.content D.synced (path_buf_bytes D.place) ∷ [] in
           let n : Follows A c.check_free.new.calls (Names beside D.content D.synced (path_buf_bytes D.place) ∷ []) c.name.new.self = c.in_ok-name.ensures.named D.content D.synced w in
-          let f : Follows A old calls c.name.new.self = follows_both A old c.check_free.new.calls c.name.new.self (Finds (path_buf_bytes D.place) found ∷ []) (Names beside D.content D.synced (path_buf_bytes D.place) ∷ []) c.check_free.ensures.1 n in
+          let f : Follows A old calls c.name.new.self = follows_both A old c.check_free.new.calls c.name.new.self (Finds (path_buf_bytes D.place) found ∷ []) (Names beside D.content D.synced (path_buf_bytes D.place) ∷ []) c.check_free.ensures.found.1 n in
           let part : IsPart access top steps calls (Puts D.path D.content false ∷ []) = (beside, D.synced, c.requires.synced, found, free, ap (λ p. Finds p found ∷ Names beside D.content D.synced p ∷ []) at) in
           told_more A access top old c.name.new.self calls steps (Puts D.path D.content false ∷ []) (steps_of c.note.new.done.items) c.requires.writable c.args.self.now.told f part more);
     }
