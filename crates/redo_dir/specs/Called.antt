@@ -1,10 +1,12 @@
 -- The calls of the system that changed something, and what they come to in a directory.
-use Rattle.std.specs.Prelude.{◌≡◌, ◌≢◌, ◌⊎◌, ℕ, Bool, true, false, List, [], ◌∷◌, ◌++◌, Option, Some, None, Result, Ok, Err, IfSome, take, zero, suc}
+use Rattle.std.specs.Prelude.{◌≡◌, ◌≢◌, ◌⊎◌, ℕ, Bool, true, false, List, [], ◌∷◌, ◌++◌, Option, Some, None, Result, Ok, Err, IfSome, option_map, string_bytes, take, zero, suc}
 use Rattle.std.specs.Fs.{IsDir, IsFile, file_type, metadata_len}
 use Rattle.std.specs.List.{AllByRecursion}
 use Rattle.std.specs.Path.{path_join}
 use Rattle.std.specs.declared.fs.attrs.Metadata.{Metadata}
+use Rattle.std.specs.declared.alloc.Global.{Global}
 use Rattle.std.specs.declared.io.ErrorKind.{ErrorKind}
+use Rattle.std.specs.declared.string.String.{String}
 use Rattle.std.specs.declared.io.ErrorKind.TheVariants.{InvalidInput, NotFound, Unsupported}
 use Rattle.redo_dir.specs.Stored.{Step, Finishes, Journals, Puts, Removes}
 use Rattle.redo_dir.specs.declared.access.Access.{Access}
@@ -135,6 +137,11 @@ pub record Does (access : Access) (top : List ℕ) (log : List Call) (steps : Li
 -- what the system was called for so far comes to these steps
 abbrev pub HasDone : {C : Type 0} → (C → List Call → Type 0) → Access → List ℕ → C → List Step → Type 0
 HasDone after access top calls steps = ∥ ((log : List Call) × after calls log × Does access top log steps) ∥₁
+
+-- behind these names of a directory came one more, or they are all
+abbrev pub IsNext : (List (Option (List ℕ)) → Type 0) → (List (Option (List ℕ)) → Type 0) → List (Option (List ℕ)) → Option (Option (String Global)) → Type 0
+IsNext listed lists names (Some name) = listed (names ++ option_map string_bytes name ∷ [])
+IsNext listed lists names None = lists names
 
 -- the bytes that are read of a file of this size; some file systems say 0 where they know none
 abbrev pub front_read : ℕ → List ℕ → List ℕ

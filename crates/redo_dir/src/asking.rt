@@ -6,17 +6,38 @@ ghost use Rattle.std.specs.IoError.{error_kind};
 ghost use Rattle.std.specs.declared.io.ErrorKind.{ErrorKind};
 ghost use Rattle.std.specs.declared.io.ErrorKind.TheVariants.{AlreadyExists, OutOfMemory};
 ghost use Rattle.redo_dir.specs.Called.{Finds, Follows, Found, IsFree, LeadsTo, Syncs, answer_of, found_of, front_read, is_waited_for};
+ghost use Rattle.redo_dir.specs.Loaded.{names_in, node_seen};
 ghost use Rattle.redo_dir.specs.inside.Waiting.{HasIdled, HasWaited};
-ghost use Rattle.redo_dir.specs.Loaded.{node_seen};
 ghost use Rattle.redo_dir.specs.Refused.{IsBrokenOff, IsFailed, IsTaken};
 
-use crate::calls::{Calls, ClosedFile, NewFile};
+use crate::calls::{Calls, ClosedFile, Listing, NewFile};
 use crate::work_dir::Seen;
 use std::alloc::Global;
 use std::fs::{Metadata, Permissions};
 use std::io;
 use std::io::{ErrorKind, Read};
 use std::path::PathBuf;
+
+/// The names of a directory. None stands for a name that isn't text.
+pub(crate) fn list_names<C: Calls>(
+    calls: &C,
+    alloc: Global,
+    place: &PathBuf,
+) -> io::Result<Vec<Option<String>>>
+    ensures listed { IfOk result (λ names. C.lists calls.now (path_buf_bytes place.now) (names_in names.items)) }
+    ensures refused { IfErr result (λ error. (error_kind error ≡ OutOfMemory) ⊎ C.fails (path_buf_bytes place.now) (error_kind error)) }
+{
+    let mut listing = calls.open_dir(alloc, place)?;
+    let mut names = Vec::new(alloc);
+    // No memory has room for so many.
+    for _ in 0..u64::MAX {
+        match calls.next_name(alloc, &mut listing)? {
+            Some(name) => names.push(name)?,
+            None => return Ok(names),
+        }
+    }
+    Err(io::Error::from(ErrorKind::OutOfMemory))
+}
 
 /// The bytes of a file, which had `size` of them when it was looked at. What it has grown by since isn't read.
 fn read_file<C: Calls>(calls: &C, alloc: Global, place: &PathBuf, size: u64) -> io::Result<Vec<u8>>

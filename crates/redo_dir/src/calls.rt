@@ -1,10 +1,9 @@
 //! The calls of the system that a directory stands on, one function each.
 
-ghost use Rattle.std.specs.Prelude.{◌≡◌, ◌++◌, ◌∷◌, [], IfErr, IfOk, List, Ok, OnErr, OnOk, true, false, Bool, ℕ};
+ghost use Rattle.std.specs.Prelude.{◌≡◌, ◌++◌, ◌∷◌, [], IfErr, IfOk, List, Ok, OnErr, Option, OnOk, true, false, Bool, ℕ};
 ghost use Rattle.std.specs.IoError.{error_kind};
 ghost use Rattle.std.specs.Path.{path_buf_bytes};
-ghost use Rattle.redo_dir.specs.Called.{Follows, Finds, Keeps, Names, Renames, Stays, Syncs, Unlinks, answer_of, found_of};
-ghost use Rattle.redo_dir.specs.Loaded.{names_in};
+ghost use Rattle.redo_dir.specs.Called.{Follows, Finds, IsNext, Keeps, Names, Renames, Stays, Syncs, Unlinks, answer_of, found_of};
 
 use std::alloc::Global;
 use std::fs::{Metadata, Permissions};
@@ -53,11 +52,21 @@ pub trait ClosedFile {
     ghost holds: { Self → List ℕ → List ℕ → Bool → Type 0 };
 }
 
+/// A directory of the system that is being listed.
+pub trait Listing {
+    ghost use Rattle.std.specs.Prelude.{List, Option, ℕ};
+
+    // Of the directory at this place these names came so far; none stands for a name that isn't text.
+    ghost listed: { Self → List ℕ → List (Option (List ℕ)) → Type 0 };
+}
+
 /// The calls of the system. None does more than its name says, and each answers what the system does.
 pub trait Calls {
     ghost use Rattle.std.specs.Prelude.{List, Option, ℕ};
     ghost use Rattle.std.specs.declared.io.ErrorKind.{ErrorKind};
     ghost use Rattle.redo_dir.specs.Called.{Call, Found};
+
+    type Names: Listing + Drop;
 
     type New: NewFile + Drop;
 
@@ -71,15 +80,27 @@ pub trait Calls {
     ghost stands: { Self → List ℕ → Found → Type 0 };
     // A file was opened, and these are its bytes, where they are known.
     ghost opens: { Self → List ℕ → Option (List ℕ) → Type 0 };
-    // A directory was listed, and these are its names; none stands for a name that isn't text.
+    // A directory was listed to its end, and these are its names; none stands for a name that isn't text.
     ghost lists: { Self → List ℕ → List (Option (List ℕ)) → Type 0 };
 
     // A call at a place was answered by this error.
     ghost fails: { List ℕ → ErrorKind → Type 0 };
 
-    fn list(&self, alloc: Global, place: &PathBuf) -> io::Result<Vec<Option<String>>>
-        ensures listed { IfOk result (λ names. lists self.now (path_buf_bytes place.now) (names_in names.items)) }
+    fn open_dir(&self, alloc: Global, place: &PathBuf) -> io::Result<Self::Names>
+        ensures opened { IfOk result (λ names. Self.Names.listed names (path_buf_bytes place.now) []) }
         ensures refused { IfErr result (λ error. fails (path_buf_bytes place.now) (error_kind error)) };
+
+    /// The next name of a directory, or none behind the last. A name that isn't text is itself none.
+    fn next_name(
+        &self,
+        alloc: Global,
+        names: &mut Self::Names,
+    ) -> io::Result<Option<Option<String>>>
+        ensures next { IfOk result (λ next. (place : List ℕ) (before : List (Option (List ℕ))) →
+            Self.Names.listed names.old place before →
+            IsNext (Self.Names.listed names.new place) (lists self.now place) before next) }
+        ensures refused { IfErr result (λ error. (place : List ℕ) (before : List (Option (List ℕ))) →
+            Self.Names.listed names.old place before → fails place (error_kind error)) };
 
     fn look(&self, place: &PathBuf) -> io::Result<Metadata>
         ensures found { IfOk result (λ about. stands self.now (path_buf_bytes place.now) (Ok about)) }

@@ -36,7 +36,7 @@ mod system;
 mod unwritten;
 mod work_dir;
 
-pub use calls::{Calls, ClosedFile, NewFile};
+pub use calls::{Calls, ClosedFile, Listing, NewFile};
 pub use changes::Change;
 pub use clearing::{Left, clear};
 pub use faults::{JournalFault, LoadFault, StoreFault};

@@ -1,8 +1,8 @@
 //! The calls of the system, passed through. What stands here is not proved: no contract knows what the system does.
 
-use crate::calls::{Calls, ClosedFile, NewFile};
+use crate::calls::{Calls, ClosedFile, Listing, NewFile};
 use std::alloc::Global;
-use std::fs::{DirEntry, File, Metadata, OpenFile, Permissions};
+use std::fs::{DirEntry, File, Metadata, OpenFile, Permissions, ReadDir};
 use std::io::{ErrorKind, Write};
 use std::path::PathBuf;
 use std::rt::Files;
@@ -60,6 +60,10 @@ impl ClosedFile for Closed {
     ghost holds = { λ _ _ _ _. Unit {0} };
 }
 
+impl<R: Files> Listing for ReadDir<(&R, Global)> {
+    ghost listed = { λ _ _ _. Unit {0} };
+}
+
 /// A name as it was listed, or none where it isn't text.
 fn name_of<F: Files + Drop>(
     alloc: Global,
@@ -72,7 +76,7 @@ fn name_of<F: Files + Drop>(
     }
 }
 
-impl<R: Files> Calls for SystemCalls<'_, R> {
+impl<'a, R: Files> Calls for SystemCalls<'a, R> {
     ghost after = { λ _ _. Unit {0} };
 
     ghost stands = { λ _ _ _. Unit {0} };
@@ -83,19 +87,28 @@ impl<R: Files> Calls for SystemCalls<'_, R> {
 
     ghost fails = { λ _ _. Unit {0} };
 
+    type Names = ReadDir<(&'a R, Global)>;
+
     type New = OpenNew<R::File>;
 
     type Closed = Closed;
 
     type Source = R::File;
 
-    fn list(&self, alloc: Global, place: &PathBuf) -> io::Result<Vec<Option<String>>> {
+    fn open_dir(&self, alloc: Global, place: &PathBuf) -> io::Result<ReadDir<(&'a R, Global)>> {
         let reader = (self.rt, alloc);
-        let mut names = Vec::new(alloc);
-        for listed in fs::read_dir(&reader, place.as_path())? {
-            names.push(name_of(alloc, listed)?)?;
+        fs::read_dir(&reader, place.as_path())
+    }
+
+    fn next_name(
+        &self,
+        alloc: Global,
+        names: &mut ReadDir<(&'a R, Global)>,
+    ) -> io::Result<Option<Option<String>>> {
+        match names.next() {
+            None => Ok(None),
+            Some(listed) => Ok(Some(name_of(alloc, listed)?)),
         }
-        Ok(names)
     }
 
     fn look(&self, place: &PathBuf) -> io::Result<Metadata> {

@@ -14,7 +14,7 @@ ghost use Rattle.redo_which.specs.Candidates.{book_path, journal_path};
 
 use crate::access::Access;
 use crate::asking::{
-    NewContent, check_free, permissions_at, read_seen, sync_each, sync_names, write_new,
+    NewContent, check_free, list_names, permissions_at, read_seen, sync_each, sync_names, write_new,
 };
 use crate::calls::{Calls, ClosedFile};
 use crate::changes::Change;
@@ -396,7 +396,7 @@ impl<'a, C: Calls> WorkDir for SystemDir<'a, C> {
 
     fn list(&self, alloc: Global, dir: &Path) -> io::Result<Vec<Option<String>>> {
         let place = self.place_of(alloc, dir.text())?;
-        self.calls.list(alloc, &place)
+        list_names(&self.calls, alloc, &place)
     }
 
     fn look(&self, alloc: Global, path: &Path) -> io::Result<Seen> {
