@@ -8,11 +8,18 @@ abbrev pub known_words : Bool → List ℕ
 known_words true = codes ": it isn't as the last run left it"
 known_words false = codes ": the book has no record of it"
 
+-- a source that has a rule, and what the book tells of it
+abbrev pub known_text : Unbuilt → List ℕ
+known_text note = note.path ++ known_words note.recorded
+
+-- what that means, and what to do
+abbrev pub help_text : Unbuilt → List ℕ
+help_text note =
+    codes ", so it counts as yours and isn't built; remove it to have " ++ note.do_file ++ codes " make it\n"
+
 -- the line of a source that has a rule
 abbrev pub unbuilt_line : Unbuilt → List ℕ
-unbuilt_line note =
-    note.path ++ known_words note.recorded ++ codes ", so it counts as yours and isn't built; remove it to have "
-    ++ note.do_file ++ codes " make it\n"
+unbuilt_line note = known_text note ++ help_text note
 
 -- the line of a path
 abbrev pub shadowed_line : List ℕ → List ℕ

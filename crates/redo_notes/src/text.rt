@@ -1,7 +1,7 @@
 //! The lines of notes.
 
 ghost use Rattle.std.specs.Prelude.{◌≡◌, ◌-◌, ◌++◌, IfOk, OnOk, codes, decimal, flat_map, length, string_bytes, take};
-ghost use Rattle.redo_notes.specs.Texts.{known_words, more_line, note_lines, ruleless_line, some_lines, shadowed_line, unbuilt_line, unmade_line};
+ghost use Rattle.redo_notes.specs.Texts.{help_text, known_text, known_words, more_line, note_lines, ruleless_line, some_lines, shadowed_line, unbuilt_line, unmade_line};
 
 use crate::kinds::{Notes, Unbuilt};
 use redo_path::Path;
@@ -66,16 +66,29 @@ fn words_of_known(recorded: bool) -> &'static [u8]
     }
 }
 
+/// Adds a source that has a rule, and what the book tells of it.
+fn push_known(text: &mut Vec<u8>, note: &Unbuilt) -> Result<(), AllocError>
+    ensures { OnOk result (text.new.items ≡ text.old.items ++ known_text note.now) }
+{
+    text.extend_from_slice(note.path.text())?;
+    text.extend_from_slice(words_of_known(note.recorded))
+}
+
+/// Adds what that means, and what to do.
+fn push_help(text: &mut Vec<u8>, note: &Unbuilt) -> Result<(), AllocError>
+    ensures { OnOk result (text.new.items ≡ text.old.items ++ help_text note.now) }
+{
+    text.extend_from_slice(UNBUILT)?;
+    text.extend_from_slice(note.do_file.text())?;
+    text.extend_from_slice(b" make it\n")
+}
+
 /// Adds the line of a source that has a rule.
 fn push_unbuilt(text: &mut Vec<u8>, note: &Unbuilt) -> Result<(), AllocError>
     ensures { OnOk result (text.new.items ≡ text.old.items ++ unbuilt_line note.now) }
 {
-    text.extend_from_slice(note.path.text())?;
-    text.extend_from_slice(words_of_known(note.recorded))?;
-    text.extend_from_slice(UNBUILT)?;
-    text.extend_from_slice(note.do_file.text())?;
-    text.extend_from_slice(b" make it\n")?;
-    Ok(())
+    push_known(text, note)?;
+    push_help(text, note)
 }
 
 /// Adds the line of a target that was built without a file.
