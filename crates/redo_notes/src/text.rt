@@ -46,6 +46,13 @@ fn push_more(alloc: Global, text: &mut Vec<u8>, count: usize, most: usize) -> Re
     text.extend_from_slice(words.as_bytes())
 }
 
+/// Adds words.
+fn push_words(text: &mut Vec<u8>, words: &[u8]) -> Result<(), AllocError>
+    ensures { OnOk result (text.new.items ≡ text.old.items ++ words.now) }
+{
+    text.extend_from_slice(words)
+}
+
 /// Adds a path and what is said of it.
 fn push_said(text: &mut Vec<u8>, path: &Path, said: &[u8]) -> Result<(), AllocError>
     ensures { OnOk result (text.new.items ≡ text.old.items ++ path.now ++ said.now) }
@@ -78,9 +85,9 @@ fn push_known(text: &mut Vec<u8>, note: &Unbuilt) -> Result<(), AllocError>
 fn push_help(text: &mut Vec<u8>, note: &Unbuilt) -> Result<(), AllocError>
     ensures { OnOk result (text.new.items ≡ text.old.items ++ help_text note.now) }
 {
-    text.extend_from_slice(UNBUILT)?;
-    text.extend_from_slice(note.do_file.text())?;
-    text.extend_from_slice(b" make it\n")
+    push_words(text, UNBUILT)?;
+    push_said(text, &note.do_file, b" make it\n")?;
+    Ok(())
 }
 
 /// Adds the line of a source that has a rule.
