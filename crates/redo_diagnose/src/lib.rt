@@ -12,7 +12,7 @@
 //! - `places`: places in a script's text; `reasons`: why a target failed, in the words of a report, and in which line;
 //! - what is said: `said` (pieces), `bytes` (bytes that are refused), `commands` (their names and forms), `faults` (scripts
 //!   that can't be read), `ends` (scripts that failed), `missing` (targets without a script), `near` (names that are near);
-//! - `echoes`: options behind `echo`, which prints them;
+//! - `printed`: options behind `echo`, which prints them;
 //! - `shown`: bytes as a reader may see them; `groups`: one fault of several targets; `text`: the lines.
 #![tactic(auto)]
 
@@ -21,7 +21,6 @@ mod behind;
 mod bytes;
 mod commands;
 mod diagnosis;
-mod echoes;
 mod ends;
 mod faults;
 mod finding;
@@ -29,6 +28,7 @@ mod groups;
 mod missing;
 mod near;
 mod places;
+mod printed;
 mod reasons;
 mod said;
 mod scripts;
@@ -36,8 +36,8 @@ mod shown;
 mod text;
 
 pub use diagnosis::{Diagnosed, Diagnosis, Place};
-pub use echoes::{Echo, echoes};
 pub use finding::diagnoses;
+pub use printed::{Echo, echoes};
 pub use reasons::{line_named, why_text};
 pub use shown::shown_lines;
 pub use text::{Stand, text_of, text_of_rings};
