@@ -54,9 +54,13 @@ row_is_of begun kind row = is_of kind row.outcome (begun row.path)
 unfoldable pub count_of : (List ℕ → Bool) → List Row → Kind → ℕ
 count_of begun rows kind = count_by (row_is_of begun kind) rows
 
--- a number, with a noun in its number
-abbrev pub counted : ℕ → List ℕ → List ℕ
-counted count noun = decimal count ++ codes " " ++ noun ++ (if count == 1 then [] else codes "s")
+-- a number of targets
+abbrev pub counted : ℕ → List ℕ
+counted count = if count == 1 then codes "1 target" else decimal count ++ codes " targets"
+
+-- how many were built, and how many were kept
+abbrev pub done : ℕ → ℕ → List ℕ
+done built kept = (decimal built ++ codes " built, ") ++ (decimal kept ++ codes " kept")
 
 -- a number and a word, behind what stands before; nothing of none
 abbrev pub also : ℕ → List ℕ → List ℕ
@@ -65,9 +69,8 @@ also count word = if count == 0 then [] else codes ", " ++ decimal count ++ code
 -- how many targets there are, and how many of each kind
 abbrev pub summary_of : (List ℕ → Bool) → List Row → List ℕ
 summary_of begun rows =
-    counted (count_of begun rows kinds.Target) (codes "target") ++ codes ": "
-    ++ decimal (count_of begun rows kinds.Built) ++ codes " built, "
-    ++ decimal (count_of begun rows kinds.Kept) ++ codes " kept"
+    counted (count_of begun rows kinds.Target) ++ codes ": "
+    ++ done (count_of begun rows kinds.Built) (count_of begun rows kinds.Kept)
     ++ also (count_of begun rows kinds.Failed) (codes "failed")
     ++ also (count_of begun rows kinds.Cyclic) (codes "cyclic")
 

@@ -1,9 +1,9 @@
 //! The lines of a report in few lines.
 
-ghost use Rattle.std.specs.Prelude.{◌≡◌, ◌++◌, IfOk, OnOk, flat_map, string_bytes};
+ghost use Rattle.std.specs.Prelude.{◌≡◌, ◌++◌, IfOk, OnOk, codes, flat_map, string_bytes};
 ghost use Rattle.redo_names.specs.Paths.{is_among};
 ghost use Rattle.redo_report.specs.ReportText.{outcome_words};
-ghost use Rattle.redo_short.specs.Short.{is_told as is_told_of, row_line, row_lines, short_of, short_report};
+ghost use Rattle.redo_short.specs.Short.{is_told as is_told_of, row_line, row_lines, short_of, short_report, summary_of};
 
 use crate::counts::summary_by;
 use redo_diagnose::why_text;
@@ -78,15 +78,28 @@ fn push_rows(
     Ok(())
 }
 
+/// Adds the line of the summary.
+fn push_summary(
+    alloc: Global,
+    text: &mut Vec<u8>,
+    begun: &PathSet,
+    rows: &[Row],
+) -> Result<(), AllocError>
+    ensures { OnOk result (text.new.items ≡
+        text.old.items ++ summary_of (is_among begun.now) rows.now ++ codes "\n") }
+{
+    let summary = summary_by(alloc, begun, rows)?;
+    text.extend_from_slice(summary.as_bytes())?;
+    text.extend_from_slice(b"\n")
+}
+
 /// The text for rows, with the paths whose scripts were begun.
 fn text_by(alloc: Global, begun: &PathSet, rows: &[Row]) -> Result<Vec<u8>, AllocError>
     ensures { IfOk result (λ text. text.items ≡ short_of (is_among begun.now) rows.now) }
 {
     let mut text = Vec::new(alloc);
     push_rows(alloc, &mut text, begun, rows)?;
-    let summary = summary_by(alloc, begun, rows)?;
-    text.extend_from_slice(summary.as_bytes())?;
-    text.extend_from_slice(b"\n")?;
+    push_summary(alloc, &mut text, begun, rows)?;
     Ok(text)
 }
 
