@@ -213,7 +213,7 @@ def stale(tree, requested, head):
 
 def dead(tree, requested, status, head):
     """What is noted of the files that builds left and that a build of `all` needs no more, where it goes well."""
-    rows = became(head)
+    rows = {os.fsdecode(path) for path in became(head)}
     stated, book = states(tree), book_of(tree)
     made = {target: at for target, (at, _) in (records(book) if book is not None else {}).items()}
     left = [path for path, at in made.items() if at != "none" and stated.get(path) == at and path not in rows]
