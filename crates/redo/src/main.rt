@@ -88,16 +88,22 @@ fn main(rt: HostRuntime) -> ExitCode {
 /// do: help, the version or a refusal was shown.
 fn read_call(rt: &HostRuntime, alloc: Global) -> Result<Call, u8> {
     let words = words(rt, alloc).map_err(|refusal| refuse(rt, refusal))?;
-    let own = parse(rt, alloc, &words)?;
-    let words = flags::words(rt, alloc).map_err(|refusal| refuse(rt, refusal))?;
-    let flags = if words.len() > 1 {
-        Some(parse_flags(rt, alloc, &words)?)
-    } else {
-        None
-    };
+    let more = flags::words(rt, alloc).map_err(|refusal| refuse(rt, refusal))?;
+    read_words(rt, alloc, &words, &more)
+}
+
+/// The same for the words of the command line, and those of the environment.
+fn read_words(
+    rt: &HostRuntime,
+    alloc: Global,
+    words: &[String],
+    more: &[String],
+) -> Result<Call, u8> {
+    let own = parse(rt, alloc, words)?;
+    let flags = parse_flags(rt, alloc, more)?;
     let line = Line { own, flags };
     if line.flags.is_some() && line.has(VERBOSE) {
-        show_cause(rt, flags::shown(alloc, &words).map(Some));
+        show_cause(rt, flags::shown(alloc, more).map(Some));
     }
     call_of(rt, alloc, &line).map_err(|refusal| refuse_call(rt, alloc, refusal, &line))
 }
@@ -111,12 +117,15 @@ fn parse<'w>(rt: &HostRuntime, alloc: Global, words: &'w [String]) -> Result<Arg
     }
 }
 
-/// What the words in the environment say. Where they are refused, it is said where they come from.
+/// What the words in the environment say, if there are any. Where they are refused, it is said where they come from.
 fn parse_flags<'w>(
     rt: &HostRuntime,
     alloc: Global,
     words: &'w [String],
-) -> Result<ArgMatches<'w>, u8> {
+) -> Result<Option<ArgMatches<'w>>, u8> {
+    if words.len() <= 1 {
+        return Ok(None);
+    }
     let command = options::command(alloc).map_err(|_| refuse(rt, Refusal::Memory))?;
     let matches = match command.try_get_matches_from(words) {
         Ok(matches) => matches,
@@ -131,7 +140,7 @@ fn parse_flags<'w>(
         show_cause(rt, flags::shown(alloc, words).map(Some));
         return Err(refuse(rt, refusal));
     }
-    Ok(matches)
+    Ok(Some(matches))
 }
 
 /// What the words ask for, in this place and on this standard error.
