@@ -1,4 +1,3 @@
-pub mod CallLemmas
 pub mod ClearLemmas
 pub mod EntryNameLemmas
 pub mod FailLemmas
@@ -8,4 +7,3 @@ pub mod LevelLemmas
 pub mod ListingLemmas
 pub mod OwnLemmas
 pub mod TextLemmas
-pub mod WaitLemmas

@@ -1,7 +1,5 @@
-pub mod Called
 pub mod Loaded
 pub mod Own
-pub mod Refused
 pub mod Stored
 pub mod Storing
 pub mod inside

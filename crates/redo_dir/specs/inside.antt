@@ -1,4 +1,3 @@
 pub mod Batches
 pub mod Clearing
 pub mod Levels
-pub mod Waiting

@@ -4,22 +4,14 @@
 //! Both reach the file system through [`WorkDir`] alone, of which [`SystemDir`] is the system's; a test has one of its
 //! own. The crate stands on `redo_tree` and `redo_path`, and on `thiserror`.
 //!
-//! `SystemDir` is proved over [`Calls`], single calls of the system whose contracts say what was answered. Its log comes
-//! to what it tells as done. Only `passing`, which hands each call to the system, says nothing that is proved.
-//!
-//! - `work_dir`: what a run asks of the file system; `changes`: what it changed;
-//! - `system`: a directory of the system; `asking`: what it asks by several calls; `calls`: single calls; `passing`: those
-//!   of the system;
+//! - `work_dir`: what a run asks of the file system; `changes`: what it changed; `system`: a directory of the system;
 //! - `loading`: a directory as a tree; `places`: which of its names a tree takes in; `looking`: what they lead to;
 //! - `storing`: files that are stored; `batches`: which of them together, and by how many threads; `drafts`: how they are
 //!   written and named;
 //! - `faults`: why a directory was not read, or a file not stored; `unwritten`: why one file was not.
 #![tactic(auto)]
 
-mod access;
-mod asking;
 mod batches;
-mod calls;
 mod changes;
 mod clearing;
 mod drafts;
@@ -29,14 +21,12 @@ mod loading;
 mod lock;
 mod looking;
 mod own;
-mod passing;
 mod places;
 mod storing;
 mod system;
 mod unwritten;
 mod work_dir;
 
-pub use calls::{Calls, ClosedFile, Listing, NewFile};
 pub use changes::Change;
 pub use clearing::{Left, clear};
 pub use faults::{JournalFault, LoadFault, StoreFault};
@@ -44,7 +34,6 @@ pub use journal::{ToStore, store_by_journal};
 pub use loading::load_dir;
 pub use lock::{DirLock, LockFault, Lockable, lock_dir};
 pub use own::{Tag, journal_path};
-pub use passing::{Closed, OpenNew, SystemCalls};
 pub use storing::{Writers, store_files};
 pub use system::{SystemDir, SystemDraft};
 pub use work_dir::{Drafted, Seen, WorkDir};
