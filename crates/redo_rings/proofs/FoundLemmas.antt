@@ -1,16 +1,16 @@
 -- Rings of paths, found by walks over numbers.
-use Rattle.std.proofs.Common.{◌≡◌, ◌≢◌, ◌∙◌, ◌+◌, ◌<◌, ◌≤◌, ◌⊎◌, inl, inr, ℕ, zero, suc, Bool, true, false, List, [], ◌∷◌, ◌++◌, Option, Some, None, refl, sym, ap, subst, arith, length, get_or, map, slice_get, take, eqb, append-nil, cond, ◌-◌}
+use Rattle.std.proofs.Common.{◌≡◌, ◌≢◌, ◌∙◌, ◌+◌, ◌<◌, ◌≤◌, ◌⊎◌, inl, inr, ℕ, zero, suc, Bool, true, false, List, [], ◌∷◌, ◌++◌, Option, Some, None, refl, sym, ap, subst, arith, length, get_or, map, slice_get, take, eqb, append-nil, cond, not, true≢false, ◌&&◌, ◌-◌}
 use Rattle.std.specs.Prelude.{All, Contains, filter_map, flat_map}
 use Rattle.std.specs.Arc.{arc_value}
 use Rattle.std.specs.List.{AllZip, count_by}
 use Rattle.std.specs.Str.{bytes_eq}
 use Rattle.std.proofs.lemmas.Bool.{cases_eq, cases_lt}
 use Rattle.std.proofs.lemmas.List.{get_or_past, length-map, map-append, take_more}
-use Rattle.std.proofs.lemmas.List.Elements.{All-cons, All-nil, Contains-append_right, filter_agree, filter_map-append}
+use Rattle.std.proofs.lemmas.List.Elements.{All-cons, All-filter, All-nil, Contains-append_right, filter_agree, filter_map-append}
 use Rattle.std.proofs.lemmas.List.Sums.{sum_by-cons}
 use Rattle.std.proofs.lemmas.Option.{slice_get-get_or, slice_get_within}
 use Rattle.redo_names.specs.Paths.{AreDistinct, IsAmong, is_among}
-use Rattle.redo_names.proofs.PathLemmas.{among-told, told-among}
+use Rattle.redo_names.proofs.PathLemmas.{among-told, place-among, told-absent, told-among}
 use Rattle.redo_record.specs.Progress.{changes}
 use Rattle.redo_report.specs.declared.report.Report.{Report}
 use Rattle.redo_report.specs.declared.report.Row.{Row}
@@ -24,7 +24,8 @@ use Rattle.redo_rings.specs.inside.Found.{AreRingsOf, IsRingOf, is_at}
 use Rattle.std.proofs.lemmas.Bool.Decides.{Decides-eqb}
 use Rattle.std.proofs.lemmas.Slice.Eq.{bytes_eq-Decides}
 use Rattle.redo_rings.proofs.GraphLemmas.{one-number}
-use Rattle.redo_rings.proofs.WalkLemmas.{in-either, once-both}
+use Rattle.redo_rings.proofs.CountLemmas.{Entry, count-apart, count-filter, count-of, is_of, kept-among, kept-distinct, kept-there, passing, paths_in}
+use Rattle.redo_rings.proofs.WalkLemmas.{in-either, in-left, in-right, once-both}
 
 module _ (names : List (List ℕ)) where
   abbrev pub AreNamed : List ℕ → List (List ℕ) → Type 0
@@ -252,6 +253,24 @@ module _ (places : List (Option ℕ)) where
       let one : base + 0 ≡ rest.0 = cc in
       omega (arith, one, rest.1))
 
+-- a number on a circle is among those of all, and back
+pub in-numbers : (table : List (Option Circle)) (m n : ℕ) (c : Circle) → circle_at table m ≡ Some c → IsIn c.members.items n → IsIn (numbers_of (all_circles table)) n
+in-numbers [] m n c at is = absurd (let bad : None ≡ Some c = at in cc)
+in-numbers (None ∷ table) zero n c at is = absurd (let bad : None ≡ Some c = at in cc)
+in-numbers (None ∷ table) (suc m) n c at is = in-numbers table m n c at is
+in-numbers (Some d ∷ table) zero n c at is =
+    let one : d ≡ c = cc in in-left d.members.items (numbers_of (all_circles table)) n (subst (λ x. IsIn x.members.items n) (sym one) is)
+in-numbers (Some d ∷ table) (suc m) n c at is = in-right d.members.items (numbers_of (all_circles table)) n (in-numbers table m n c at is)
+
+pub on-circle : (table : List (Option Circle)) (n : ℕ) → IsIn (numbers_of (all_circles table)) n →
+    (m : ℕ) × (c : Circle) × (circle_at table m ≡ Some c) × IsIn c.members.items n
+on-circle [] n none = absurd none
+on-circle (None ∷ table) n is = let rest = on-circle table n is in (suc rest.0, rest.1, rest.2, rest.3)
+on-circle (Some c ∷ table) n is = elim (in-either c.members.items (numbers_of (all_circles table)) n is) [
+  | inl here ↦ (0, c, refl, here)
+  | inr later ↦ let rest = on-circle table n later in (suc rest.0, rest.1, rest.2, rest.3)
+]
+
 -- the numbers of all circles have the paths on all rings
 pub rings-named : (names : List (List ℕ)) (R : Circle → Ring → Type 0) → ((c : Circle) (r : Ring) → R c r → AreNamed names c.members.items r.members.items) →
     (cs : List Circle) (rs : List Ring) → AllZip R cs rs → AreNamed names (numbers_of cs) (on_rings rs)
@@ -327,6 +346,9 @@ module _ (names : List (List ℕ)) where
 pub first-of : (next : List (Option ℕ)) (seen : List Bool) (places : List (Option ℕ)) (m : ℕ) (ns : List ℕ) → IsCircle next seen places m ns → get_or ns 0 0 ≡ m
 first-of next seen places m ns circle = ap (λ l. get_or l 0 0) circle.begins.1
 
+some-same : {A : Type 0} (x y : A) → Some x ≡ Some y → x ≡ y
+some-same x y is = cc
+
 some-circle : (o : Option Circle) → o ≢ None → (c : Circle) × (o ≡ Some c)
 some-circle None some = absurd (some refl)
 some-circle (Some c) some = (c, refl)
@@ -382,7 +404,7 @@ module _ (next : List (Option ℕ)) (seen : List Bool) (places : List (Option �
         )
 
     abbrev FromCircle : Circle → Type 0
-    FromCircle c = (m : ℕ) × IsCircle next seen places m c.members.items
+    FromCircle c = (m : ℕ) × (circle_at circles m ≡ Some c)
 
     first-named : (m : ℕ) (ns : List ℕ) → IsCircle next seen places m ns → (first : List ℕ) × (slice_get names m ≡ Some first)
     first-named m ns circle =
@@ -390,30 +412,46 @@ module _ (next : List (Option ℕ)) (seen : List Bool) (places : List (Option �
         let there : IsIn ns m = subst (λ l. IsIn l m) (sym begins.1) (inl refl) in
         named-at names m (let h = circle.within m there in omega (arith, h, size))
 
-    from-circle : (n : ℕ) (c : Circle) → circle_at circles n ≡ Some c → FromCircle c
-    from-circle n c at = (n, known.circles n c at)
-
     pub all-rings : All (λ (r : Ring). (first : List ℕ) × IsRing report first r.members.items) rings
     all-rings =
         zip-all R FromCircle (λ r. (first : List ℕ) × IsRing report first r.members.items)
         (λ c r from is.
-        let name = first-named from.0 c.members.items from.1 in
-        (name.0, is-ring from.0 name.0 c r name.1 from.1 is))
-        circles rings from-circle are
+        let circle = known.circles from.0 c from.1 in
+        let name = first-named from.0 c.members.items circle in
+        (name.0, is-ring from.0 name.0 c r name.1 circle is))
+        circles rings (λ n c at. (n, at)) are
+
+    all-named : AreNamed names (numbers_of (all_circles circles)) (on_rings rings)
+    all-named = rings-named names R (λ c r is. is.0) (all_circles circles) rings are
 
     pub all-once : AreDistinct (on_rings rings)
     all-once =
-        named-once names distinct (numbers_of (all_circles circles)) (on_rings rings)
-        (rings-named names R (λ c r is. is.0) (all_circles circles) rings are)
+        named-once names distinct (numbers_of (all_circles circles)) (on_rings rings) all-named
         (circles-once places 0 circles (λ k c at.
         let circle = known.circles k c at in
         (circle.once, λ n is. circle.placed n is ∙ ap (λ (m : ℕ). Some m) (let e : k ≡ 0 + k = omega arith in e))))
 
-    abbrev found : List (List ℕ × Option (List ℕ))
+    abbrev found : List Entry
     found = told_places names names places
 
     many : length places ≡ length names
     many = known.places_size ∙ size
+
+    found-paths : paths_in found ≡ names
+    found-paths = told-paths names names places many
+
+    found-once : AreDistinct (paths_in found)
+    found-once = subst AreDistinct (sym found-paths) distinct
+
+    found-among : (p : List ℕ) → IsAmong names p → IsAmong (paths_in found) p
+    found-among p is = subst (λ l. IsAmong l p) (sym found-paths) is
+
+    abbrev is_outside : List ℕ → Bool
+    is_outside p = not (is_among (on_rings rings) p)
+
+    -- what is found of those that are on no ring
+    abbrev pub others : List Entry
+    others = passing is_outside found
 
     place-is : (k : ℕ) (p : List ℕ) (o : Option ℕ) → slice_get names k ≡ Some p → place_at places k ≡ o → IsSettled next circles (Some k) o → IsPlace report rings p (told names o)
     place-is k p None at is settled = leads-out report names table next same asks size some none k p settled.0 at settled.1
@@ -427,32 +465,124 @@ module _ (next : List (Option ℕ)) (seen : List Bool) (places : List (Option �
           (ring.0, ring.1, is-ring m name.0 there.0 ring.0 name.1 circle ring.2),
         )
 
-    pub are-places : ArePlaces report rings found
+    pub are-places : ArePlaces report rings others
     are-places = record {
-      once = subst AreDistinct (sym (told-paths names names places many)) distinct;
-      each = λ p is.
-          let told_there : is_among names p ≡ true = same p ∙ told-among (cyclic_paths report) p is in
-          subst (λ l. IsAmong l p) (sym (told-paths names names places many)) (among-told names p told_there);
-      right = told-all names (λ e. IsPlace report rings e.0 e.1) names places
-          (λ k p at.
+      once = kept-distinct is_outside found found-once;
+      each = λ p. (
+        (λ is.
+            let kept = kept-among is_outside found p is in
+            let named : is_among names p ≡ true = told-among names p (subst (λ l. IsAmong l p) found-paths kept.1) in (
+              among-told (cyclic_paths report) p (sym (same p) ∙ named),
+              λ on. true≢false (sym kept.0 ∙ ap not (told-among (on_rings rings) p on)),
+            )),
+        (λ is.
+            let named : is_among names p ≡ true = same p ∙ told-among (cyclic_paths report) p is.0 in
+            kept-there is_outside found p (ap not (told-absent (on_rings rings) p is.1)) (found-among p (among-told names p named))),
+      );
+      right = All-filter (λ (e : Entry). is_outside e.0) (λ e. IsPlace report rings e.0 e.1) found
+          (told-all names (λ e. IsPlace report rings e.0 e.1) names places (λ k p at.
           let under = slice_get_within names k p at in
-          place-is k p (place_at places k) at refl (known.settled k (all k (omega (arith, under, size)))));
+          place-is k p (place_at places k) at refl (known.settled k (all k (omega (arith, under, size))))));
     }
 
-    pub all-counted : All (IsCounted report found) rings
+    on-some : (k : ℕ) (p : List ℕ) → slice_get names k ≡ Some p → IsAmong (on_rings rings) p →
+        (m : ℕ) × (c : Circle) × (circle_at circles m ≡ Some c) × IsIn c.members.items k
+    on-some k p here on =
+        let back = named-back names (numbers_of (all_circles circles)) (on_rings rings) p all-named on in
+        on-circle circles k (subst (IsIn (numbers_of (all_circles circles))) (one-number names back.0 k p distinct back.1 here) back.2)
+
+    -- One ring
+
+    module _ (m : ℕ) (c : Circle) (r : Ring) (first : List ℕ) (at : circle_at circles m ≡ Some c)
+        (named : AreNamed names c.members.items r.members.items) (name : slice_get names m ≡ Some first) where
+      abbrev place_of : ℕ → Option (List ℕ)
+      place_of k = told names (place_at places k)
+
+      member-number : (k : ℕ) (p : List ℕ) → slice_get names k ≡ Some p → IsAmong r.members.items p → IsIn c.members.items k
+      member-number k p here is =
+          let back = named-back names c.members.items r.members.items p named is in
+          subst (IsIn c.members.items) (one-number names back.0 k p distinct back.1 here) back.2
+
+      -- a member is placed with its ring
+      member-with : (k : ℕ) (p : List ℕ) → slice_get names k ≡ Some p → IsAmong r.members.items p → is_with first (place_of k) ≡ true
+      member-with k p here is =
+          ap (λ o. is_with first (told names o)) ((known.circles m c at).placed k (member-number k p here is))
+          ∙ ap (is_with first) name ∙ (bytes_eq-Decides first first).1 refl
+
+      member-on : (k : ℕ) (p : List ℕ) → slice_get names k ≡ Some p → IsAmong r.members.items p → IsAmong (on_rings rings) p
+      member-on k p here is =
+          let there = named-in names (numbers_of (all_circles circles)) (on_rings rings) k all-named
+          (in-numbers circles m k c at (member-number k p here is)) in
+          subst (IsAmong (on_rings rings)) (some-same there.0 p (sym there.1 ∙ here)) there.2
+
+      same-circle : (n : ℕ) (d : Circle) (k : ℕ) → circle_at circles n ≡ Some d → IsIn d.members.items k → is_with first (place_of k) ≡ true → d ≡ c
+      same-circle n d k there is is_here =
+          let circle = known.circles n d there in
+          let begins = first-named n d.members.items circle in
+          let placed : bytes_eq begins.0 first ≡ true =
+          sym (ap (λ o. is_with first (told names o)) (circle.placed k is) ∙ ap (is_with first) begins.1) ∙ is_here in
+          let same_first = ap (λ (q : List ℕ). Some q) ((bytes_eq-Decides begins.0 first).0 placed) in
+          let same_place : n ≡ m = one-number names n m first distinct (begins.1 ∙ same_first) name in
+          some-same d c (sym there ∙ subst (λ x. circle_at circles x ≡ Some c) (sym same_place) at)
+
+      number-member : (k : ℕ) (p : List ℕ) → slice_get names k ≡ Some p → IsIn c.members.items k → IsAmong r.members.items p
+      number-member k p here is =
+          let member = named-in names c.members.items r.members.items k named is in
+          subst (IsAmong r.members.items) (some-same member.0 p (sym member.1 ∙ here)) member.2
+
+      -- who is on a ring and is placed with this one is its member
+      with-member : (k : ℕ) (p : List ℕ) → slice_get names k ≡ Some p → is_with first (place_of k) ≡ true → IsAmong (on_rings rings) p → IsAmong r.members.items p
+      with-member k p here is_here on =
+          let there = on-some k p here on in
+          let same_circle = same-circle there.0 there.1 k there.2 there.3 is_here in
+          number-member k p here (subst (λ x. IsIn x.members.items k) same_circle there.3)
+
+      apart : (k : ℕ) (p : List ℕ) → slice_get names k ≡ Some p →
+          cond (is_with first (place_of k)) 1 0 ≡ cond (is_among r.members.items p) 1 0 + cond (is_with first (place_of k) && is_outside p) 1 0
+      apart k p here =
+          three (is_with first (place_of k)) (is_among r.members.items p) (is_among (on_rings rings) p)
+          (λ told. member-with k p here (among-told r.members.items p told))
+          (λ told. told-among (on_rings rings) p (member-on k p here (among-told r.members.items p told)))
+          (λ is_here on. told-among r.members.items p (with-member k p here is_here (among-told (on_rings rings) p on)))
+        where
+          three : (a b on : Bool) → (b ≡ true → a ≡ true) → (b ≡ true → on ≡ true) → (a ≡ true → on ≡ true → b ≡ true) →
+              cond a 1 0 ≡ cond b 1 0 + cond (a && not on) 1 0
+          three true true true x y z = refl
+          three true true false x y z = absurd (let bad : false ≡ true = y refl in cc)
+          three true false true x y z = absurd (let bad : false ≡ true = z refl refl in cc)
+          three true false false x y z = refl
+          three false true on x y z = absurd (let bad : false ≡ true = x refl in cc)
+          three false false on x y z = refl
+
+      abbrev with_first : Entry → Bool
+      with_first e = is_with first e.1
+
+      -- the members, and the others that are placed with the ring
+      pub all-with : count_by with_first found ≡ length r.members.items + count_by with_first others
+      all-with =
+          let members = count-of r.members.items found found-once
+          (named-once names distinct c.members.items r.members.items named (known.circles m c at).once)
+          (λ p is. let back = named-back names c.members.items r.members.items p named is in found-among p (place-among names back.0 p back.1)) in
+          let both = count-apart with_first (is_of r.members.items) (λ e. with_first e && is_outside e.0) found
+          (told-all names
+          (λ (e : Entry). cond (with_first e) 1 0 ≡ cond (is_of r.members.items e) 1 0 + cond (with_first e && is_outside e.0) 1 0)
+          names places apart) in
+          let outside = count-filter with_first (λ (e : Entry). is_outside e.0) found in
+          omega (arith, members, both, outside)
+
+    pub all-counted : All (IsCounted report others) rings
     all-counted =
-        zip-all R FromCircle (IsCounted report found)
+        zip-all R FromCircle (IsCounted report others)
         (λ c r from is.
         let ns = c.members.items in
-        let name = first-named from.0 ns from.1 in
+        let circle = known.circles from.0 c from.1 in
+        let name = first-named from.0 ns circle in
         let long : length ns ≡ length r.members.items =
         sym (length-map ns (slice_get names)) ∙ ap length is.0 ∙ length-map r.members.items (λ (p : List ℕ). Some p) in
         let counted = told-count names distinct from.0 name.0 name.1 names places many
-        (λ k n at. let h = places-in k n at in omega (arith, h, many)) in (
-          name.0,
-          is-ring from.0 name.0 c r name.1 from.1 is,
-          is.1 ∙ ap (λ m. count_by (is_at m) places - length ns) (first-of next seen places from.0 ns from.1)
-              ∙ ap (λ n. n - length ns) (sym counted)
-              ∙ ap (λ n. count_by (λ (e : List ℕ × Option (List ℕ)). is_with name.0 e.1) found - n) long,
-        ))
-        circles rings from-circle are
+        (λ k n at. let h = places-in k n at in omega (arith, h, many)) in
+        let waiting = is.1 ∙ ap (λ m. count_by (is_at m) places - length ns) (first-of next seen places from.0 ns circle)
+        ∙ ap (λ n. n - length ns) (sym counted) in
+        let both = all-with from.0 c r name.0 from.1 is.0 name.1 in
+        (name.0, is-ring from.0 name.0 c r name.1 circle is, omega (arith, waiting, both, long)))
+        circles rings (λ n c at. (n, at)) are

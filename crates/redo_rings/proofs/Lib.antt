@@ -1,4 +1,5 @@
 pub mod CircleLemmas
+pub mod CountLemmas
 pub mod FoundLemmas
 pub mod GraphLemmas
 pub mod KnownLemmas

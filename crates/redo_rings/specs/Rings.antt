@@ -1,5 +1,5 @@
 -- Rings of the cyclic targets of a report.
-use Rattle.std.specs.Prelude.{◌≡◌, ◌-◌, ◌⊎◌, Bool, true, false, ℕ, List, [], ◌∷◌, Option, Some, None, All, Contains, filter, flat_map, length, map}
+use Rattle.std.specs.Prelude.{◌≡◌, ◌⊎◌, ◌↔◌, Bool, true, false, ℕ, List, [], ◌∷◌, Option, Some, None, All, Contains, filter, flat_map, map}
 use Rattle.std.specs.Arc.{arc_value}
 use Rattle.std.specs.List.{count_by}
 use Rattle.std.specs.Str.{bytes_eq}
@@ -52,6 +52,10 @@ abbrev pub IsRing : Report → List ℕ → List (List ℕ) → Type 0
 IsRing report first ps =
     (others : List (List ℕ)) × (ps ≡ first ∷ others) × IsChain report ps first × AreDistinct ps
 
+-- the members of rings
+abbrev pub on_rings : List Ring → List (List ℕ)
+on_rings rings = flat_map (λ ring. ring.members.items) rings
+
 -- where a target is counted: with the ring that begins with this target, or with none, as it leads to one that asks for none
 abbrev pub IsPlace : Report → List Ring → List ℕ → Option (List ℕ) → Type 0
 IsPlace report rings p None = (q : List ℕ) × LeadsTo report p q × AsksForNone report q
@@ -63,17 +67,13 @@ abbrev pub is_with : List ℕ → Option (List ℕ) → Bool
 is_with first None = false
 is_with first (Some p) = bytes_eq p first
 
--- each cyclic target with its place, once
+-- each cyclic target that is no member of a ring, once, with its place
 pub record ArePlaces (report : Report) (rings : List Ring) (places : List (List ℕ × Option (List ℕ))) : Type 0 where
   pub once : AreDistinct (map (λ e. e.0) places)
-  pub each : (p : List ℕ) → IsAmong (cyclic_paths report) p → IsAmong (map (λ e. e.0) places) p
+  pub each : (p : List ℕ) → IsAmong (map (λ e. e.0) places) p ↔ (IsAmong (cyclic_paths report) p × (IsAmong (on_rings rings) p → ⊥))
   pub right : All (λ e. IsPlace report rings e.0 e.1) places
 
--- the members of rings
-abbrev pub on_rings : List Ring → List (List ℕ)
-on_rings rings = flat_map (λ ring. ring.members.items) rings
-
--- a ring, with the number of the other targets whose place is with it
+-- a ring, with the number of the targets whose place is with it
 abbrev pub IsCounted : Report → List (List ℕ × Option (List ℕ)) → Ring → Type 0
 IsCounted report places ring = (first : List ℕ) × IsRing report first ring.members.items
-    × (ring.waiting ≡ count_by (λ e. is_with first e.1) places - length ring.members.items)
+    × (ring.waiting ≡ count_by (λ e. is_with first e.1) places)

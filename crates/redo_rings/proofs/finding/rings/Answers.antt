@@ -3,7 +3,7 @@ use Rattle.redo_names.specs.Paths.{is_among}
 use Rattle.redo_report.specs.declared.report.Row.{Row}
 use Rattle.redo_rings.specs.inside.Graph.{IsNext, cyclic_among}
 use Rattle.redo_rings.specs.inside.Walks.{IsGraph, IsKnown}
-use Rattle.redo_rings.proofs.FoundLemmas.{all-counted, all-once, all-rings, are-places, first-of, is-graph, places-in, told_places}
+use Rattle.redo_rings.proofs.FoundLemmas.{all-counted, all-once, all-rings, are-places, first-of, is-graph, others, places-in}
 use Rattle.redo_rings.proofs.finding.rings.Goals as goal
 
 pub all_walks-requires : goal.all_walks-requires
@@ -51,7 +51,7 @@ returns c =
       rings = all-rings next seen places circles known all report names n.0 same distinct n.1 n.2 n.3 n.4 rings c.in_ok-rings.ensures;
       once = all-once next seen places circles known all report names n.0 same distinct n.1 n.2 n.3 n.4 rings c.in_ok-rings.ensures;
       places = (
-        told_places names names places,
+        others next seen places circles known all report names n.0 same distinct n.1 n.2 n.3 n.4 rings c.in_ok-rings.ensures,
         are-places next seen places circles known all report names n.0 same distinct n.1 n.2 n.3 n.4 rings c.in_ok-rings.ensures,
         all-counted next seen places circles known all report names n.0 same distinct n.1 n.2 n.3 n.4 rings c.in_ok-rings.ensures,
       );
