@@ -1,8 +1,13 @@
 -- What is told of the targets of a report that failed: which, and where in their scripts.
-use Rattle.std.specs.Prelude.{◌≡◌, ◌+◌, ◌≤◌, ◌==◌, ℕ, List, [], ◌∷◌, Option, Some, None, IfSome, flat_map, if◌then◌else◌}
-use Rattle.std.specs.Prelude.{length, map, option_map, take}
+use Rattle.std.specs.Prelude.{◌≡◌, ◌⊎◌, ◌+◌, ◌≤◌, ◌==◌, ℕ, List, [], ◌∷◌, Option, Some, None, Contains, IfSome, flat_map}
+use Rattle.std.specs.Prelude.{if◌then◌else◌, length, map, option_map, take}
+use Rattle.std.specs.Arc.{arc_value}
+use Rattle.redo_names.specs.Paths.{IsAmong}
 use Rattle.redo_script.specs.Texts.{first_line}
 use Rattle.redo_script.specs.Tokens.{line_after}
+use Rattle.redo_tree.specs.Tree.{Tree}
+use Rattle.redo_which.specs.Rule.{Arguments, Rule, found_of}
+use Rattle.redo_record.specs.Progress.{changes}
 use Rattle.redo_record.specs.declared.outcome.Outcome.{Outcome}
 use Rattle.redo_record.specs.declared.outcome.Outcome.TheVariants as outcomes
 use Rattle.redo_record.specs.declared.outcome.Why.{Why}
@@ -112,3 +117,31 @@ IsInSource source why place = MarksIn source place × IfSome (line_named why) (�
 -- a diagnosis with a place marks it in a source
 abbrev pub MarksSource : (List ℕ → Option (List ℕ)) → Diagnosis → Type 0
 MarksSource source d = IfSome d.place (IsInSource source d.why)
+
+-- In which script
+
+-- the search over these sources finds this script for a target
+abbrev pub IsScriptOf : Tree → List ℕ → List ℕ → Type 0
+IsScriptOf tree target file = (missing : List (List ℕ)) × (arguments : Arguments) × (found_of tree target ≡ Rule file missing arguments)
+
+-- a target failed without a script of its own
+abbrev pub HasNoScript : Why → Type 0
+HasNoScript why = (why ≡ whys.NoRule) ⊎ (why ≡ whys.Directory) ⊎ (why ≡ whys.NoDirectory)
+
+-- the script of a row's target failed in this line as what it asks for failed, and asks for this path
+abbrev pub FailsFor : Row → List ℕ → ℕ → Type 0
+FailsFor row path line = (row.outcome ≡ outcomes.Failed (whys.Depends line)) × IsAmong (changes (arc_value row.deps)) path
+
+-- a place is in the line in which a script failed that asks for this path
+abbrev pub IsAskedAt : Tree → List Row → List ℕ → Place → Type 0
+IsAskedAt tree rows path place =
+    (row : Row) × Contains rows row × FailsFor row path place.line × IsScriptOf tree row.path place.file
+
+-- a place is in the script of a target that failed for this reason; if it failed without one, in a script that asks for it
+pub record IsPlaced (tree : Tree) (rows : List Row) (target : List ℕ) (why : Why) (place : Place) : Type 0 where
+  pub own : (HasNoScript why → ⊥) → IsScriptOf tree target place.file
+  pub asked : HasNoScript why → IsAskedAt tree rows target place
+
+-- a diagnosis with a place has it there
+abbrev pub MarksScript : Tree → List Row → Diagnosis → Type 0
+MarksScript tree rows d = IfSome d.place (IsPlaced tree rows d.target d.why)

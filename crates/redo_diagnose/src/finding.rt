@@ -1,8 +1,12 @@
 //! The diagnoses of a report.
 
-ghost use Rattle.std.specs.Prelude.{◌≡◌, ◌++◌, All, IfOk, IfSome, None, OnOk, Some, map, take};
+ghost use Rattle.std.specs.Prelude.{◌≡◌, ◌++◌, All, Contains, IfOk, IfSome, None, OnOk, Some, map, take, true};
+ghost use Rattle.std.specs.Arc.{arc_value};
+ghost use Rattle.redo_names.specs.Paths.{IsAmong};
 ghost use Rattle.redo_tree.specs.Tree.{file_at};
+ghost use Rattle.redo_record.specs.Progress.{changes};
 ghost use Rattle.redo_diagnose.specs.Diagnoses.{AreFirst, IsIn, IsInSource, MarksIn, MarksSource};
+ghost use Rattle.redo_diagnose.specs.Diagnoses.{FailsFor, IsAskedAt, IsPlaced, IsScriptOf, MarksScript};
 ghost use Rattle.redo_diagnose.specs.Diagnoses.{failures as failures_in};
 ghost use Rattle.redo_diagnose.specs.Diagnoses.{own_reason as own_reason_of, reason_in, told_of, with_reason};
 ghost use Rattle.redo_diagnose.specs.inside.Failures.{failure_of};
@@ -15,7 +19,7 @@ use crate::missing::{names, of_directory, of_no_directory, of_no_rule};
 use crate::said::Said;
 use crate::scripts::{Failed, Remark};
 use redo_path::Path;
-use redo_record::{Outcome, Why};
+use redo_record::{DepKind, Outcome, Why};
 use redo_report::{Report, Row};
 use redo_step::Limits;
 use redo_tree::Tree;
@@ -95,29 +99,47 @@ fn placeless(said: Said) -> Remark
     Remark { place: None, said }
 }
 
-/// Why a row failed, if it did.
-fn failed_for(row: &Row) -> Option<Why> {
+/// Whether the script of a row's target asks for a path.
+fn asks_for(row: &Row, path: &Path) -> bool
+    ensures { result ≡ true → IsAmong (changes (arc_value row.now.deps)) path.now }
+{
+    for dep in row.deps.parts().own {
+        if matches!(dep.kind, DepKind::Change) && dep.path == *path {
+            return true;
+        }
+    }
+    false
+}
+
+/// The line in which the script of a row's target failed, if it did because of what it asks for, and asks for this path.
+fn failed_for(row: &Row, path: &Path) -> Option<u64>
+    ensures { IfSome result (FailsFor row.now path.now) }
+{
     match &row.outcome {
-        Outcome::Failed(why) => Some(*why),
-        Outcome::Source | Outcome::Built(_) | Outcome::Cyclic => None,
+        Outcome::Failed(Why::Depends(line)) if asks_for(row, path) => Some(*line),
+        _ => None,
     }
 }
 
 impl Built<'_> {
     /// The row that was the first to ask for a target, if one has failed because of it.
-    fn asker(&self, target: &Path) -> Option<&Row> {
+    fn asker(&self, target: &Path) -> Option<&Row>
+        ensures { IfSome result (λ row. Contains self.now.report.now.rows.items row.now) }
+    {
         self.report.rows.get(self.behind.asker(target)?)
     }
 
     /// Where the first script asks for a target that failed because of it.
     fn asked_at(&self, alloc: Global, target: &Path) -> Result<Option<Place>, AllocError>
-        ensures { IfOk result (λ place. IfSome place (MarksIn (file_at self.now.sources.now))) }
+        ensures marks { IfOk result (λ place. IfSome place (MarksIn (file_at self.now.sources.now))) }
+        ensures asked { IfOk result (λ place. IfSome place
+            (IsAskedAt self.now.sources.now self.now.report.now.rows.items target.now)) }
     {
         let Some(asker) = self.asker(target) else {
             return Ok(None);
         };
-        match failed_for(asker) {
-            Some(why) => self.asked_in(alloc, &asker.path, why),
+        match failed_for(asker, target) {
+            Some(line) => self.asked_in(alloc, &asker.path, line),
             None => Ok(None),
         }
     }
@@ -128,8 +150,10 @@ impl Built<'_> {
         alloc: Global,
         target: &'s Path,
     ) -> Result<Option<Failed<'s>>, AllocError>
-        ensures { IfOk result (λ found. IfSome found (λ failed.
+        ensures text { IfOk result (λ found. IfSome found (λ failed.
             file_at self.now.sources.now failed.rule.do_file ≡ Some failed.text.now)) }
+        ensures script { IfOk result (λ found. IfSome found (λ failed.
+            IsScriptOf self.now.sources.now target.now failed.rule.do_file)) }
     {
         let Found::Rule(rule) = find(alloc, self.sources, target)? else {
             return Ok(None);
@@ -146,12 +170,15 @@ impl Built<'_> {
         }))
     }
 
-    /// Where the script of a target asks for what it waits for, which failed with this reason.
-    fn asked_in(&self, alloc: Global, target: &Path, why: Why) -> Result<Option<Place>, AllocError>
-        ensures { IfOk result (λ place. IfSome place (MarksIn (file_at self.now.sources.now))) }
+    /// Where the script of a target, which failed in this line, asks for what it waits for.
+    fn asked_in(&self, alloc: Global, target: &Path, line: u64) -> Result<Option<Place>, AllocError>
+        ensures marks { IfOk result (λ place. IfSome place (MarksIn (file_at self.now.sources.now))) }
+        ensures line { IfOk result (λ place. IfSome place (λ place. place.line ≡ line)) }
+        ensures script { IfOk result (λ place. IfSome place (λ place.
+            IsScriptOf self.now.sources.now target.now place.file)) }
     {
         match self.script_of(alloc, target)? {
-            Some(failed) => failed.asked(alloc, &self.answers, why),
+            Some(failed) => failed.asked(alloc, &self.answers, Why::Depends(line)),
             None => Ok(None),
         }
     }
@@ -168,7 +195,9 @@ impl Built<'_> {
 
     /// What is said of a target whose script failed with this reason.
     fn of_script(&self, alloc: Global, target: &Path, why: Why) -> Result<Remark, AllocError>
-        ensures { IfOk result (λ found. IfSome found.place (IsInSource (file_at self.now.sources.now) why)) }
+        ensures marks { IfOk result (λ found. IfSome found.place (IsInSource (file_at self.now.sources.now) why)) }
+        ensures script { IfOk result (λ found. IfSome found.place (λ place.
+            IsScriptOf self.now.sources.now target.now place.file)) }
     {
         match self.script_of(alloc, target)? {
             Some(failed) => self.of_text(alloc, &failed, why),
@@ -178,7 +207,9 @@ impl Built<'_> {
 
     /// What is said of a target without a script. The place is that of the word by which a script asks for it.
     fn of_no_script(&self, alloc: Global, failure: &Failure<'_>) -> Result<Remark, AllocError>
-        ensures { IfOk result (λ found. IfSome found.place (MarksIn (file_at self.now.sources.now))) }
+        ensures marks { IfOk result (λ found. IfSome found.place (MarksIn (file_at self.now.sources.now))) }
+        ensures asked { IfOk result (λ found. IfSome found.place
+            (IsAskedAt self.now.sources.now self.now.report.now.rows.items failure.now.target.now)) }
     {
         let target = failure.target;
         let said = match failure.why {
@@ -192,7 +223,9 @@ impl Built<'_> {
 
     /// What is said of a failure.
     fn found(&self, alloc: Global, failure: &Failure<'_>) -> Result<Remark, AllocError>
-        ensures { IfOk result (λ found. IfSome found.place (IsInSource (file_at self.now.sources.now) failure.now.why)) }
+        ensures marks { IfOk result (λ found. IfSome found.place (IsInSource (file_at self.now.sources.now) failure.now.why)) }
+        ensures placed { IfOk result (λ found. IfSome found.place
+            (IsPlaced self.now.sources.now self.now.report.now.rows.items failure.now.target.now failure.now.why)) }
     {
         match failure.why {
             Why::NoRule | Why::Directory | Why::NoDirectory => self.of_no_script(alloc, failure),
@@ -204,6 +237,7 @@ impl Built<'_> {
     fn diagnosis(&self, alloc: Global, failure: &Failure<'_>) -> Result<Diagnosis, AllocError>
         ensures told { IfOk result (λ d. told_of d ≡ failure_of failure.now) }
         ensures marks { IfOk result (MarksSource (file_at self.now.sources.now)) }
+        ensures placed { IfOk result (MarksScript self.now.sources.now self.now.report.now.rows.items) }
     {
         let Remark { place, said } = self.found(alloc, failure)?;
         let Said { message, help, .. } = said;
@@ -225,6 +259,8 @@ impl Built<'_> {
     ) -> Result<Vec<Diagnosis>, AllocError>
         ensures told { IfOk result (λ ds. map told_of ds.items ≡ map failure_of failures.now) }
         ensures marks { IfOk result (λ ds. All (MarksSource (file_at self.now.sources.now)) ds.items) }
+        ensures placed { IfOk result (λ ds.
+            All (MarksScript self.now.sources.now self.now.report.now.rows.items) ds.items) }
     {
         let mut diagnoses = Vec::with_capacity(alloc, failures.len())?;
         for failure in failures {
@@ -277,6 +313,8 @@ pub fn diagnoses(
     ensures first { IfOk result (AreFirst report.now.rows.items most) }
     ensures marks { IfOk result (λ diagnosed.
         All (MarksSource (file_at sources.now)) diagnosed.diagnoses.items) }
+    ensures placed { IfOk result (λ diagnosed.
+        All (MarksScript sources.now report.now.rows.items) diagnosed.diagnoses.items) }
 {
     let failures = failures(alloc, &report.rows)?;
     let first = first(&failures, most);
