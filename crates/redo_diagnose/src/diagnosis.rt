@@ -24,7 +24,8 @@ pub struct Diagnosis {
     pub target: Path,
     /// Why it failed, as its row says.
     pub why: Why,
-    /// Where in its script; `None` if it has none.
+    /// Where in its script; if it has none, where the script of one that failed because of it asks for it. `None` if there
+    /// is no such place.
     pub place: Option<Place>,
     /// What is wrong, in words: text that may be shown, without a newline.
     pub message: Vec<u8>,
