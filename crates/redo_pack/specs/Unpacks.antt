@@ -1,6 +1,8 @@
 -- A tree whose directories and files are made.
-use Rattle.std.specs.Prelude.{◌≡◌, ◌++◌, Bool, true, false, not, ℕ, List, [], ◌∷◌, Some, filter, map, slice_get, take}
+use Rattle.std.specs.Prelude.{◌≡◌, ◌≢◌, ◌++◌, Bool, true, false, not, ℕ, List, [], ◌∷◌, Some, codes, decimal, filter, map}
+use Rattle.std.specs.Prelude.{slice_get, take}
 use Rattle.std.specs.declared.io.ErrorKind.{ErrorKind}
+use Rattle.redo_path.specs.Names.{name_of}
 use Rattle.redo_tree.specs.Tree.{Directory, File, Node, Tree}
 use Rattle.redo_pack.specs.declared.system_top.Made.{Made}
 use Rattle.redo_pack.specs.declared.system_top.Made.TheVariants as system
@@ -23,6 +25,18 @@ made_of (system.File path content) = (path, File content)
 
 abbrev pub all_made : List Made → List (List ℕ × Node)
 all_made made = map made_of made
+
+-- a file by its path and its bytes
+abbrev pub file_of : List ℕ × List ℕ → List ℕ × Node
+file_of (path, bytes) = (path, File bytes)
+
+-- the temporary name with this number
+abbrev pub temporary_name : ℕ → List ℕ
+temporary_name number = codes ".redo-unpack-" ++ decimal number ++ codes ".tmp"
+
+-- a temporary name, and not the own one of the file at this path
+abbrev pub IsTemporary : List ℕ → List ℕ → Type 0
+IsTemporary path name = (number : ℕ) × (name ≡ temporary_name number) × (name ≢ name_of path)
 
 -- the fault of a call at a path; where memory ran out, nothing is said of it
 abbrev pub IsUnmade : UnpackFault → List ℕ → ErrorKind → Type 0

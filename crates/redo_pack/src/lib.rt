@@ -4,15 +4,18 @@
 //! and files where there are none. The crate stands on `redo_bundle` for bundles, on `redo_tree` and `redo_path`.
 //!
 //! - `packing`: a tree as a bundle; `faults`: why there is none;
-//! - `unpacking`: a tree's directories and files; `system_top`: the directory of the system in which they are made.
+//! - `unpacking`: a tree's directories and files; `making`: what is asked of the directory in which they are made;
+//! - `system_top`: such a directory of the system.
 #![tactic(auto)]
 
 mod faults;
+mod making;
 mod packing;
 mod system_top;
 mod unpacking;
 
 pub use faults::PackFault;
+pub use making::{Drafted, Making};
 pub use packing::pack;
-pub use system_top::{Made, SystemTop};
-pub use unpacking::{Making, UnpackFault, unpack};
+pub use system_top::{Made, SystemDraft, SystemTop};
+pub use unpacking::{UnpackFault, unpack};

@@ -2,42 +2,15 @@
 
 ghost use Rattle.std.specs.Prelude.{◌≡◌, ◌++◌, ◌∷◌, [], IfErr, OnErr, OnOk};
 ghost use Rattle.std.specs.IoError.{error_kind};
-ghost use Rattle.redo_tree.specs.Tree.{node_of};
+ghost use Rattle.redo_tree.specs.Tree.{File, node_of};
 ghost use Rattle.redo_pack.specs.Unpacks.{IsUnmade, Stops, below, is_top as is_the_top};
 
+use crate::making::Making;
 use redo_path::Path;
 use redo_tree::{Content, Entry, Tree};
 use std::alloc::{AllocError, Global};
 use std::io;
 use std::io::ErrorKind;
-
-/// A directory in which directories and files are made. Paths are those of a tree; the directory itself is the root.
-///
-/// The ghost names keep what was asked and answered, so that contracts can speak of it.
-/// [`SystemTop`](crate::SystemTop) asks the system.
-pub trait Making {
-    ghost use Rattle.std.specs.Prelude.{◌≡◌, ◌++◌, ◌∷◌, [], IfErr, List, OnErr, OnOk, ℕ};
-    ghost use Rattle.std.specs.IoError.{error_kind};
-    ghost use Rattle.std.specs.declared.io.ErrorKind.{ErrorKind};
-    ghost use Rattle.redo_tree.specs.Tree.{Directory, File, Node};
-
-    // What was made, in this order.
-    ghost made: { Self → List (List ℕ × Node) };
-    // A call at a path was answered by this error.
-    ghost refuses: { Self → List ℕ → ErrorKind → Type 0 };
-
-    /// Makes a directory. The error is `AlreadyExists` where something has its name.
-    fn make_dir(&mut self, alloc: Global, path: &Path) -> io::Result<()>
-        ensures made { OnOk result (made self.new ≡ made self.old ++ (path.now, Directory) ∷ []) }
-        ensures kept { OnErr result (made self.new ≡ made self.old) }
-        ensures refused { IfErr result (λ error. refuses self.old path.now (error_kind error)) };
-
-    /// Makes a file. The error is `AlreadyExists` where something has its name.
-    fn make_file(&mut self, alloc: Global, path: &Path, content: &Content) -> io::Result<()>
-        ensures made { OnOk result (made self.new ≡ made self.old ++ (path.now, File content.now) ∷ []) }
-        ensures kept { OnErr result (made self.new ≡ made self.old) }
-        ensures refused { IfErr result (λ error. refuses self.old path.now (error_kind error)) };
-}
 
 /// Why a tree isn't unpacked to its end.
 #[derive(Debug, Drop)]
@@ -65,6 +38,21 @@ fn is_top(path: &Path) -> bool
     path.text().is_empty()
 }
 
+/// Makes a file, which gets its name when it is whole.
+fn make_file<D: Making>(
+    alloc: Global,
+    dir: &mut D,
+    path: &Path,
+    content: &Content,
+) -> io::Result<()>
+    ensures made { OnOk result (D.made dir.new ≡ D.made dir.old ++ (path.now, File content.now) ∷ []) }
+    ensures kept { OnErr result (D.made dir.new ≡ D.made dir.old) }
+    ensures refused { IfErr result (λ error. D.refuses dir.old path.now (error_kind error)) }
+{
+    let draft = dir.draft(alloc, path, content)?;
+    dir.put(draft)
+}
+
 /// Makes what a tree has at a path.
 fn make<D: Making>(alloc: Global, dir: &mut D, path: &Path, entry: &Entry) -> io::Result<()>
     ensures made { OnOk result (D.made dir.new ≡ D.made dir.old ++ (path.now, node_of entry.now) ∷ []) }
@@ -73,7 +61,7 @@ fn make<D: Making>(alloc: Global, dir: &mut D, path: &Path, entry: &Entry) -> io
 {
     match entry {
         Entry::Directory => dir.make_dir(alloc, path),
-        Entry::File(content) => dir.make_file(alloc, path, content),
+        Entry::File(content) => make_file(alloc, dir, path, content),
     }
 }
 
