@@ -1,7 +1,9 @@
 -- A tree whose directories and files are made.
-use Rattle.std.specs.Prelude.{◌≡◌, ◌≢◌, ◌++◌, Bool, true, false, not, ℕ, List, [], ◌∷◌, Some, codes, decimal, filter, map}
-use Rattle.std.specs.Prelude.{slice_get, take}
+use Rattle.std.specs.Prelude.{◌≡◌, ◌≢◌, ◌++◌, ◌⊎◌, Bool, true, false, not, ℕ, List, [], ◌∷◌, Some, IsUtf8, codes, decimal}
+use Rattle.std.specs.Prelude.{filter, map, slice_get, take}
+use Rattle.std.specs.List.{AllByRecursion}
 use Rattle.std.specs.declared.io.ErrorKind.{ErrorKind}
+use Rattle.std.specs.declared.io.ErrorKind.TheVariants.{InvalidFilename}
 use Rattle.redo_path.specs.Names.{name_of}
 use Rattle.redo_tree.specs.Tree.{Directory, File, Node, Tree}
 use Rattle.redo_pack.specs.declared.system_top.Made.{Made}
@@ -43,8 +45,31 @@ abbrev pub IsUnmade : UnpackFault → List ℕ → ErrorKind → Type 0
 IsUnmade (Device place said) path kind = (place ≡ path) × (said ≡ kind)
 IsUnmade Memory path kind = Unit {0}
 
+-- each path of a tree is text
+abbrev pub HasTexts : Tree → Type 0
+HasTexts tree = AllByRecursion (λ e. IsUtf8 e.0) tree
+
+-- the first path of a tree, in path order, that is no text
+pub record IsFirstNoText (tree : Tree) (path : List ℕ) : Type 0 where
+  pub front : Tree
+  pub node : Node
+  pub rest : Tree
+  pub there : tree ≡ front ++ (path, node) ∷ rest
+  pub texts : HasTexts front
+  pub no_text : IsUtf8 path → ⊥
+
 -- Why not all of these entries were made: the first were, and a call at the path of the next one was refused.
-abbrev pub Stops : (List ℕ → ErrorKind → Type 0) → List (List ℕ × Node) → List (List ℕ × Node) → List (List ℕ × Node) → UnpackFault → Type 0
-Stops refused entries before after (Device path kind) =
+abbrev pub Halts : (List ℕ → ErrorKind → Type 0) → Tree → Tree → Tree → UnpackFault → Type 0
+Halts refused entries before after (Device path kind) =
     (count : ℕ) × (node : Node) × (after ≡ before ++ take count entries) × (slice_get entries count ≡ Some (path, node)) × refused path kind
-Stops refused entries before after Memory = (count : ℕ) × (after ≡ before ++ take count entries)
+Halts refused entries before after Memory = (count : ℕ) × (after ≡ before ++ take count entries)
+
+-- a path is told that is no text, the first one
+abbrev pub TellsNoText : Tree → UnpackFault → Type 0
+TellsNoText tree (Device path kind) = IsFirstNoText tree path × (kind ≡ InvalidFilename)
+TellsNoText tree Memory = Unit {0}
+
+-- Why not all of a tree was made: a path is no text, and nothing was made; or each is, and it halts at one.
+abbrev pub Stops : (List ℕ → ErrorKind → Type 0) → Tree → Tree → Tree → UnpackFault → Type 0
+Stops refused tree before after fault =
+    (TellsNoText tree fault × (after ≡ before)) ⊎ (HasTexts tree × Halts refused (below tree) before after fault)

@@ -1,9 +1,9 @@
 //! A tree's directories and files, made in a directory that has none.
 
-ghost use Rattle.std.specs.Prelude.{◌≡◌, ◌++◌, ◌∷◌, [], IfErr, OnErr, OnOk};
+ghost use Rattle.std.specs.Prelude.{◌≡◌, ◌++◌, ◌∷◌, ◌↔◌, [], IfErr, IfOk, IsTrue, IsUtf8, MatchOption, OnErr, OnOk};
 ghost use Rattle.std.specs.IoError.{error_kind};
 ghost use Rattle.redo_tree.specs.Tree.{File, node_of};
-ghost use Rattle.redo_pack.specs.Unpacks.{IsUnmade, Stops, below, is_top as is_the_top};
+ghost use Rattle.redo_pack.specs.Unpacks.{Halts, HasTexts, IsFirstNoText, IsUnmade, Stops, below, is_top as is_the_top};
 
 use crate::making::Making;
 use redo_path::Path;
@@ -15,7 +15,8 @@ use std::io::ErrorKind;
 /// Why a tree isn't unpacked to its end.
 #[derive(Debug, Drop)]
 pub enum UnpackFault {
-    /// The system refused a call at this path, and said this. What comes before the path was made.
+    /// The system refused a call at this path, and said this. What comes before the path was made. Or the path is no
+    /// text, which is `InvalidFilename`: then nothing was made.
     Device(Path, ErrorKind),
     /// Memory ran out.
     Memory,
@@ -29,6 +30,26 @@ impl From<AllocError> for UnpackFault {
     fn from(_error: AllocError) -> UnpackFault {
         UnpackFault::Memory
     }
+}
+
+/// Whether a path is text.
+fn is_text(path: &Path) -> bool
+    ensures { IsTrue result ↔ IsUtf8 path.now }
+{
+    str::from_utf8(path.text()).is_ok()
+}
+
+/// The first path of a tree, in path order, that is no text, if there is one.
+fn first_no_text(alloc: Global, tree: &Tree) -> Result<Option<Path>, AllocError>
+    ensures { IfOk result (λ found. MatchOption found (HasTexts tree.now) (IsFirstNoText tree.now)) }
+{
+    let entries = tree.in_order(alloc)?.into_iter();
+    for (path, _entry) in entries {
+        if !is_text(path) {
+            return Ok(Some(path.clone()?));
+        }
+    }
+    Ok(None)
 }
 
 /// Whether it is the path of the top directory, which stands already.
@@ -78,11 +99,10 @@ fn unmade(path: &Path, kind: ErrorKind) -> UnpackFault
     }
 }
 
-/// Makes the directories and files of a tree, in path order, so that a directory comes before what is in it. It stops at
-/// the first that the system refuses.
-pub fn unpack<D: Making>(alloc: Global, dir: &mut D, tree: &Tree) -> Result<(), UnpackFault>
+/// Makes the directories and files of a tree, in path order.
+fn make_all<D: Making>(alloc: Global, dir: &mut D, tree: &Tree) -> Result<(), UnpackFault>
     ensures made { OnOk result (D.made dir.new ≡ D.made dir.old ++ below tree.now) }
-    ensures stops { IfErr result (Stops (λ path kind. (d : D) × D.refuses d path kind) (below tree.now)
+    ensures stops { IfErr result (Halts (λ path kind. (d : D) × D.refuses d path kind) (below tree.now)
         (D.made dir.old) (D.made dir.new)) }
 {
     let entries = tree.in_order(alloc)?.into_iter();
@@ -95,4 +115,18 @@ pub fn unpack<D: Making>(alloc: Global, dir: &mut D, tree: &Tree) -> Result<(), 
         }
     }
     Ok(())
+}
+
+/// Makes the directories and files of a tree, in path order, so that a directory comes before what is in it. It stops at
+/// the first that the system refuses. Where a path is no text, nothing is made.
+pub fn unpack<D: Making>(alloc: Global, dir: &mut D, tree: &Tree) -> Result<(), UnpackFault>
+    ensures texts { OnOk result (HasTexts tree.now) }
+    ensures made { OnOk result (D.made dir.new ≡ D.made dir.old ++ below tree.now) }
+    ensures stops { IfErr result (Stops (λ path kind. (d : D) × D.refuses d path kind) tree.now
+        (D.made dir.old) (D.made dir.new)) }
+{
+    if let Some(path) = first_no_text(alloc, tree)? {
+        return Err(UnpackFault::Device(path, ErrorKind::InvalidFilename));
+    }
+    make_all(alloc, dir, tree)
 }

@@ -2,7 +2,7 @@ use Rattle.std.proofs.Common.{◌≡◌, ◌++◌}
 use Rattle.redo_tree.specs.Tree.{Tree}
 use Rattle.redo_pack.specs.Unpacks.{below}
 use Rattle.redo_pack.proofs.LargeLemmas.{seen}
-use Rattle.redo_pack.proofs.unpacking.unpack.Given as goal
+use Rattle.redo_pack.proofs.unpacking.make_all.Given as goal
 
 -- the entries so far were made, and those that are left follow them
 abbrev pub invariant-loop-path : goal.invariant-loop-path
