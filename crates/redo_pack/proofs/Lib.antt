@@ -1,2 +1,3 @@
 pub mod LargeLemmas
+pub mod TurnLemmas
 pub mod UnpackLemmas

@@ -1,11 +1,13 @@
 -- A tree whose directories and files are made.
-use Rattle.std.specs.Prelude.{◌≡◌, ◌≢◌, ◌++◌, ◌⊎◌, Bool, true, false, not, ℕ, List, [], ◌∷◌, Some, IsUtf8, codes, decimal}
-use Rattle.std.specs.Prelude.{filter, map, slice_get, take}
+use Rattle.std.specs.Prelude.{◌≡◌, ◌≢◌, ◌++◌, ◌⊎◌, Bool, true, false, not, ℕ, List, [], ◌∷◌, Option, None, Some, IsUtf8}
+use Rattle.std.specs.Prelude.{codes, decimal, filter, map, slice_get, take}
 use Rattle.std.specs.List.{AllByRecursion}
+use Rattle.std.specs.Str.{bytes_eq}
 use Rattle.std.specs.declared.io.ErrorKind.{ErrorKind}
 use Rattle.std.specs.declared.io.ErrorKind.TheVariants.{InvalidFilename}
 use Rattle.redo_path.specs.Names.{name_of}
-use Rattle.redo_tree.specs.Tree.{Directory, File, Node, Tree}
+use Rattle.redo_tree.specs.Tree.{Directory, File, Node, Tree, file_at}
+use Rattle.redo_which.specs.Candidates.{book_path}
 use Rattle.redo_pack.specs.declared.system_top.Made.{Made}
 use Rattle.redo_pack.specs.declared.system_top.Made.TheVariants as system
 use Rattle.redo_pack.specs.declared.unpacking.UnpackFault.{UnpackFault}
@@ -16,9 +18,28 @@ abbrev pub is_top : List ℕ → Bool
 is_top [] = true
 is_top (byte ∷ bytes) = false
 
+-- it is the book: the file at its path, but no directory there
+abbrev pub is_book : List ℕ × Node → Bool
+is_book (path, Directory) = false
+is_book (path, File bytes) = bytes_eq path book_path
+
 -- what a tree has below its top directory, in path order
 abbrev pub below : Tree → Tree
 below tree = filter (λ e. not (is_top e.0)) tree
+
+-- the same without the book
+abbrev pub others : Tree → Tree
+others tree = filter (λ e. not (is_book e)) (below tree)
+
+-- the book, where a tree has one
+abbrev pub book_entry : Option (List ℕ) → Tree
+book_entry None = []
+book_entry (Some bytes) = (book_path, File bytes) ∷ []
+
+-- what a tree has below its top directory, in the order in which it is made: the book is the last, so that a directory
+-- that has it has all
+abbrev pub in_turn : Tree → Tree
+in_turn tree = others tree ++ book_entry (file_at tree book_path)
 
 -- what was made in a directory of the system
 abbrev pub made_of : Made → List ℕ × Node
@@ -72,4 +93,4 @@ TellsNoText tree Memory = Unit {0}
 -- Why not all of a tree was made: a path is no text, and nothing was made; or each is, and it halts at one.
 abbrev pub Stops : (List ℕ → ErrorKind → Type 0) → Tree → Tree → Tree → UnpackFault → Type 0
 Stops refused tree before after fault =
-    (TellsNoText tree fault × (after ≡ before)) ⊎ (HasTexts tree × Halts refused (below tree) before after fault)
+    (TellsNoText tree fault × (after ≡ before)) ⊎ (HasTexts tree × Halts refused (in_turn tree) before after fault)

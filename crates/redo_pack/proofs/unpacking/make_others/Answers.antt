@@ -1,10 +1,11 @@
 use Rattle.std.proofs.Common.{rules, ◌≡◌, ℕ, List, ◌++◌, ◌∷◌, [], ◌∙◌, ap, sym, subst, append-nil, append_assoc, false}
 use Rattle.std.specs.declared.io.ErrorKind.{ErrorKind}
 use Rattle.redo_tree.specs.Tree.{Node, Tree, node_of}
-use Rattle.redo_pack.specs.Unpacks.{Halts, below}
+use Rattle.redo_pack.specs.Unpacks.{Halts, others}
 use Rattle.redo_pack.proofs.LargeLemmas.{seen}
-use Rattle.redo_pack.proofs.UnpackLemmas.{below-more, below-top, halts_at}
-use Rattle.redo_pack.proofs.unpacking.make_all.Goals as goal
+use Rattle.redo_pack.proofs.UnpackLemmas.{halts_at, others-book, others-more, others-top}
+use Rattle.redo_pack.proofs.unpacking.make_others.Goals as goal
+use Rattle.redo_pack.proofs.unpacking.make_others.Goals.{then-is_top-via-then-is_top, then-is_top-via-else-is_top+then-is_book}
 
 pub loop-path-init : goal.loop-path-init
 loop-path-init g c =
@@ -15,13 +16,16 @@ loop-path-init g c =
       made = sym (append-nil (g.D.Making.made c.args.dir.now));
     }
 
--- the top directory stands already
+-- the top directory stands already, and the book is left for later
 pub loop-path-preserved-then-is_top : goal.loop-path-preserved-then-is_top
 loop-path-preserved-then-is_top g c =
     let before = c.loop-path.invariant in
     let e : List ℕ × Node = (c.in-Some.path.now, node_of c.in-Some.entry.now) in
     let next : seen c.loop-path.path-iterator ≡ e ∷ seen c.next.new.self = search rules in
-    let same = below-top before.done e (sym c.is_top.ensures ∙ c.if-is_top.true) ∙ append-nil (below before.done) in
+    let same : others (before.done ++ e ∷ []) ≡ others before.done = elim c.then-is_top.branch [
+      | then-is_top-via-then-is_top w ↦ others-top before.done e (sym c.is_top.ensures ∙ w.if-is_top.true)
+      | then-is_top-via-else-is_top+then-is_book w ↦ others-book before.done e (sym c.is_top.ensures ∙ w.if-is_top.false) (sym w.is_book.ensures ∙ w.if-is_book.true)
+    ] in
     record {
       done = before.done ++ e ∷ [];
       split = before.split ∙ ap (λ l. before.done ++ l) next ∙ sym (append_assoc before.done (e ∷ []) (seen c.next.new.self));
@@ -34,13 +38,13 @@ loop-path-preserved g c =
     let before = c.loop-path.invariant in
     let e : List ℕ × Node = (c.in-Some.path.now, node_of c.in-Some.entry.now) in
     let next : seen c.loop-path.path-iterator ≡ e ∷ seen c.next.new.self = search rules in
-    let more = below-more before.done e (sym c.is_top.ensures ∙ c.if-is_top.false) in
+    let more = others-more before.done e (sym c.is_top.ensures ∙ c.if-is_top.false) (sym c.is_book.ensures ∙ c.if-is_book.false) in
     let old : Tree = g.D.Making.made c.args.dir.now in
     let made : g.D.Making.made c.make.new.dir ≡ g.D.Making.made c.loop-path.dir ++ e ∷ [] = search rules in
     record {
       done = before.done ++ e ∷ [];
       split = before.split ∙ ap (λ l. before.done ++ l) next ∙ sym (append_assoc before.done (e ∷ []) (seen c.next.new.self));
-      made = made ∙ ap (λ l. l ++ e ∷ []) before.made ∙ append_assoc old (below before.done) (e ∷ []) ∙ ap (λ l. old ++ l) (sym more);
+      made = made ∙ ap (λ l. l ++ e ∷ []) before.made ∙ append_assoc old (others before.done) (e ∷ []) ∙ ap (λ l. old ++ l) (sym more);
     }
 
 -- the next one was refused
@@ -53,6 +57,6 @@ returns-in-Err-clause-stops g c =
     let old : Tree = g.D.Making.made c.args.dir.now in let new : Tree = g.D.Making.made c.make.new.dir in
     let whole : c.args.tree.now ≡ before.done ++ e ∷ seen c.next.new.self = before.split ∙ ap (λ l. before.done ++ l) next in
     let kept : new ≡ g.D.Making.made c.loop-path.dir = search rules in
-    let P : Tree → Type 0 = λ t. Halts refused (below t) old new c.unmade.result in
+    let P : Tree → Type 0 = λ t. Halts refused (others t) old new c.unmade.result in
     subst P (sym whole) (halts_at refused before.done (seen c.next.new.self) e _ old new c.unmade.result
-    (sym c.is_top.ensures ∙ c.if-is_top.false) (kept ∙ before.made) c.unmade.ensures (c.loop-path.dir, (search rules)))
+    (sym c.is_top.ensures ∙ c.if-is_top.false) (sym c.is_book.ensures ∙ c.if-is_book.false) (kept ∙ before.made) c.unmade.ensures (c.loop-path.dir, (search rules)))
