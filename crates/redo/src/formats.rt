@@ -8,11 +8,8 @@ use crate::status::Fault;
 use redo_bundle::{Plain, write_all};
 use redo_diagnose::diagnoses;
 use redo_dot::dot;
-use redo_explain::{reason_words, reasons};
 use redo_json::{Told as ToldAsJson, json};
-use redo_names::PathMap;
 use redo_page::{Told, page};
-use redo_past::Past;
 use redo_report::Report;
 use redo_rings::rings;
 use redo_short::short_text;
@@ -20,52 +17,36 @@ use std::alloc::{AllocError, Global};
 use std::io;
 use std::rt::Runtime;
 
-/// Why each begun script of a build was begun, in words, by its target.
-fn whys(
-    alloc: Global,
-    build: &BuildOptions,
-    past: &Past,
-    report: &Report,
-) -> Result<PathMap<Vec<u8>>, AllocError> {
-    let mut whys = PathMap::new(alloc);
-    for script in reasons(alloc, past, &build.options.targets, report)? {
-        let words = reason_words(alloc, past.sources(), &script.reason)?;
-        whys.insert(script.target.clone()?, words)?;
-    }
-    Ok(whys)
-}
-
 /// The report of a build as a page.
 fn as_page(
     alloc: Global,
     build: &BuildOptions,
-    past: &Past,
+    found: &Found,
     report: &Report,
     status: u8,
 ) -> Result<Vec<u8>, AllocError> {
     let limits = build.options.limits;
-    let diagnosed = diagnoses(alloc, past.sources(), limits, report, usize::MAX)?;
-    let whys = whys(alloc, build, past, report)?;
+    let diagnosed = diagnoses(alloc, found.past.sources(), limits, report, usize::MAX)?;
     let rings = rings(alloc, report)?;
     let told = Told {
         status,
-        whys: &whys,
+        request: &build.options.targets,
         diagnoses: &diagnosed.diagnoses,
         rings: &rings,
     };
-    page(alloc, report, &told)
+    page(alloc, &found.past, report, &told)
 }
 
 /// The report of a build as JSON.
 fn as_json(
     alloc: Global,
     build: &BuildOptions,
-    past: &Past,
+    found: &Found,
     report: &Report,
     status: u8,
 ) -> Result<Vec<u8>, AllocError> {
     let limits = build.options.limits;
-    let diagnosed = diagnoses(alloc, past.sources(), limits, report, usize::MAX)?;
+    let diagnosed = diagnoses(alloc, found.past.sources(), limits, report, usize::MAX)?;
     let rings = rings(alloc, report)?;
     let told = ToldAsJson {
         status,
@@ -73,7 +54,7 @@ fn as_json(
         diagnoses: &diagnosed.diagnoses,
         rings: &rings,
     };
-    json(alloc, past, report, &told)
+    json(alloc, &found.past, report, &told)
 }
 
 /// The report of a build in another form than its own.
@@ -87,9 +68,9 @@ fn text_in(
     match build.format {
         Format::Report => Ok(Vec::new(alloc)),
         Format::Short => short_text(alloc, report),
-        Format::Json => as_json(alloc, build, &found.past, report, status),
+        Format::Json => as_json(alloc, build, found, report, status),
         Format::Dot(with_rules) => dot(alloc, report, with_rules),
-        Format::Html => as_page(alloc, build, &found.past, report, status),
+        Format::Html => as_page(alloc, build, found, report, status),
     }
 }
 

@@ -1,2 +1,3 @@
 mod EscapeLemmas
 mod LinkLemmas
+mod WhyLemmas

@@ -18,18 +18,18 @@ use Rattle.redo_diagnose.specs.declared.diagnosis.Diagnosis.{Diagnosis}
 use Rattle.redo_page.specs.Pages.{numbered, row_of, users_from, users_of}
 use Rattle.redo_page.specs.inside.Links.{number_in, targets_of, users_at}
 
--- The number of each row
-
 -- a look-up with one pair more
-looked-on : (q : List ℕ) (es : List (List ℕ × ℕ)) (e : List ℕ × ℕ) →
+pub looked-on : {V : Type 0} (q : List ℕ) (es : List (List ℕ × V)) (e : List ℕ × V) →
     lookup (bytes_eq q) (es ++ e ∷ []) ≡ option_or (lookup (bytes_eq q) es) (cond (bytes_eq q e.0) (Some e.1) None)
 looked-on q [] e = refl
-looked-on q (x ∷ es) e =
+looked-on {V} q (x ∷ es) e =
     elim (bytes_eq q x.0) as (λ b. cond b (Some x.1) (lookup (bytes_eq q) (es ++ e ∷ [])) ≡
     option_or (cond b (Some x.1) (lookup (bytes_eq q) es)) (cond (bytes_eq q e.0) (Some e.1) None)) [
       | true ↦ refl
       | false ↦ looked-on q es e
     ]
+
+-- The number of each row
 
 or-none : (o : Option ℕ) → o ≡ option_or o None
 or-none None = refl

@@ -26,6 +26,7 @@ use Rattle.redo_page.specs.declared.parts.SumPart.TheVariants as sum_parts
 use Rattle.redo_page.specs.declared.parts.FailurePart.TheVariants as failure_parts
 use Rattle.redo_page.specs.declared.parts.RingPart.TheVariants as ring_parts
 use Rattle.redo_page.specs.declared.parts.RowPart.TheVariants as row_parts
+use Rattle.redo_page.specs.declared.whole.Told.{Told}
 
 -- What the rows are known by
 
@@ -284,13 +285,13 @@ rows_pieces known all n (row ∷ rows) = row_pieces known all n row ++ rows_piec
 -- The page
 
 -- what comes before the table
-abbrev pub top_pieces : Known → ℕ → List Row → List Diagnosis → List Ring → List Piece
-top_pieces known status rows ds rings =
-    (Fixed parts.Head ∷ []) ++ summary_pieces known status rows ++ failures_pieces known ds
-    ++ rings_pieces known rings
+abbrev pub top_pieces : Known → Told → List Row → List Piece
+top_pieces known told rows =
+    (Fixed parts.Head ∷ []) ++ summary_pieces known told.status rows ++ failures_pieces known told.diagnoses.now
+    ++ rings_pieces known told.rings.now
 
 abbrev pub table_pieces : Known → List Row → List Piece
 table_pieces known rows = (Fixed parts.Middle ∷ []) ++ rows_pieces known rows 0 rows ++ Fixed parts.Tail ∷ []
 
-abbrev pub page_pieces : Known → ℕ → List Row → List Diagnosis → List Ring → List Piece
-page_pieces known status rows ds rings = top_pieces known status rows ds rings ++ table_pieces known rows
+abbrev pub page_pieces : Known → Told → List Row → List Piece
+page_pieces known told rows = top_pieces known told rows ++ table_pieces known rows

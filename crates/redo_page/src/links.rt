@@ -10,6 +10,7 @@ ghost use Rattle.redo_page.specs.Parts.{text_of};
 ghost use Rattle.redo_page.specs.inside.Links.{known_by, number_in, targets_of as targets_in, users_at};
 
 use crate::parts::{Part, Tag};
+use crate::whys::Whys;
 use crate::writer::Writer;
 use redo_diagnose::Diagnosis;
 use redo_names::{PathMap, PathSet};
@@ -28,7 +29,7 @@ type Users = Vec<Vec<usize>>;
 #[derive(Drop)]
 pub(crate) struct Links<'a> {
     /// Why each begun script was begun, by its target.
-    whys: &'a PathMap<Vec<u8>>,
+    whys: &'a Whys,
     numbers: Numbers,
     /// The numbers of the rows that need each row, in ascending order.
     users: Users,
@@ -42,7 +43,7 @@ impl<'a> Links<'a> {
         alloc: Global,
         rows: &[Row],
         diagnoses: &[Diagnosis],
-        whys: &'a PathMap<Vec<u8>>,
+        whys: &'a Whys,
     ) -> Result<Links<'a>, AllocError>
         ensures whys { IfOk result (λ links. links.whys.now ≡ whys.now) }
         ensures rows { IfOk result (λ links. (p : List ℕ) → lookup (bytes_eq p) links.numbers ≡ row_in rows.now p) }

@@ -13,9 +13,12 @@ use crate::parts::Part;
 use crate::rings::push_rings;
 use crate::rows::push_rows;
 use crate::summary::push_summary;
+use crate::whys::whys_of;
 use crate::writer::Writer;
 use redo_diagnose::Diagnosis;
-use redo_names::PathMap;
+use redo_explain::reasons;
+use redo_past::Past;
+use redo_path::Path;
 use redo_report::{Report, Row};
 use redo_rings::Ring;
 use std::alloc::{AllocError, Global};
@@ -25,8 +28,8 @@ use std::alloc::{AllocError, Global};
 pub struct Told<'a> {
     /// The status with which the program ends.
     pub status: u8,
-    /// Why each begun script was begun, in words, by its target.
-    pub whys: &'a PathMap<Vec<u8>>,
+    /// The paths that were requested.
+    pub request: &'a [Path],
     /// In the order in which they are shown. One whose target has no row isn't.
     pub diagnoses: &'a [Diagnosis],
     pub rings: &'a [Ring],
@@ -39,8 +42,7 @@ fn push_top(
     rows: &[Row],
     told: &Told<'_>,
 ) -> Result<(), AllocError>
-    ensures { OnOk result (out.new ≡ out.old ++ text_of (top_pieces (known_by links.now) told.now.status rows.now
-        told.now.diagnoses.now told.now.rings.now)) }
+    ensures { OnOk result (out.new ≡ out.old ++ text_of (top_pieces (known_by links.now) told.now rows.now)) }
 {
     out.fixed(Part::Head)?;
     push_summary(out, links, told.status, rows)?;
@@ -62,30 +64,36 @@ fn push_table(
     out.fixed(Part::Tail)
 }
 
-/// Adds the page.
-fn push_page(
+/// The page of these rows.
+fn page_of(
     alloc: Global,
-    out: &mut Writer,
     links: &Links<'_>,
     rows: &[Row],
     told: &Told<'_>,
-) -> Result<(), AllocError>
-    ensures { OnOk result (out.new ≡ out.old ++ text_of (page_pieces (known_by links.now) told.now.status rows.now
-        told.now.diagnoses.now told.now.rings.now)) }
+) -> Result<Vec<u8>, AllocError>
+    ensures { IfOk result (λ text. text.items ≡ text_of (page_pieces (known_by links.now) told.now rows.now)) }
 {
-    push_top(out, links, rows, told)?;
-    push_table(alloc, out, links, rows)
+    let mut out = Writer::new(alloc);
+    push_top(&mut out, links, rows, told)?;
+    push_table(alloc, &mut out, links, rows)?;
+    Ok(out.into_bytes())
 }
 
 /// The report as one page of HTML.
 ///
-/// Bytes that aren't UTF-8, and control bytes, stand there as `\xNN`.
-pub fn page(alloc: Global, report: &Report, told: &Told<'_>) -> Result<Vec<u8>, AllocError>
-    ensures page { IfOk result (λ text. IsPage report.now told.now text.items) }
+/// `past` is that of the tree that was built. Bytes that aren't UTF-8, and control bytes, stand there as `\xNN`.
+pub fn page(
+    alloc: Global,
+    past: &Past,
+    report: &Report,
+    told: &Told<'_>,
+) -> Result<Vec<u8>, AllocError>
+    ensures page { IfOk result (λ text. IsPage past.now report.now told.now text.items) }
     ensures read { (bytes : List ℕ) → Reads (escaped bytes) (shown bytes) }
 {
-    let links = Links::of(alloc, &report.rows, told.diagnoses, told.whys)?;
-    let mut out = Writer::new(alloc);
-    push_page(alloc, &mut out, &links, &report.rows, told)?;
-    Ok(out.into_bytes())
+    let begun = reasons(alloc, past, told.request, report)?;
+    let whys = whys_of(alloc, past.sources(), &begun)?;
+    let links = Links::of(alloc, &report.rows, told.diagnoses, &whys)?;
+    let text = page_of(alloc, &links, &report.rows, told)?;
+    Ok(text)
 }

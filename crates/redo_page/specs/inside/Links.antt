@@ -1,10 +1,11 @@
 -- What the program knows of rows, as the definitions see it.
-use Rattle.std.specs.Prelude.{ℕ, List, [], Option, Some, None, Vec, bytes_eq, map, option_map, slice_get, vec_items}
+use Rattle.std.specs.Prelude.{ℕ, List, [], Option, Some, None, Vec, bytes_eq, map, slice_get}
 use Rattle.std.specs.Map.{lookup}
 use Rattle.std.specs.declared.alloc.Global.{Global}
 use Rattle.redo_names.specs.Paths.{is_among}
 use Rattle.redo_diagnose.specs.declared.diagnosis.Diagnosis.{Diagnosis}
 use Rattle.redo_page.specs.Pages.{Known}
+use Rattle.redo_page.specs.inside.Whys.{whys_by}
 use Rattle.redo_page.specs.declared.links.Links.{Links}
 
 -- the targets of diagnoses
@@ -29,5 +30,5 @@ known_by links = record {
   row_of = number_in links.numbers;
   users = users_at links.users.items;
   is_told = λ path. is_among links.diagnosed path;
-  why = λ path. option_map vec_items (lookup (bytes_eq path) links.whys.now);
+  why = whys_by links.whys.now;
 }
