@@ -53,6 +53,7 @@ fn as_json(
         request: &build.options.targets,
         diagnoses: &diagnosed.diagnoses,
         rings: &rings,
+        notes: &found.notes,
     };
     json(alloc, &found.past, report, &told)
 }

@@ -8,6 +8,7 @@ use Rattle.redo_explain.specs.declared.begun.Begun.{Begun}
 use Rattle.redo_explain.specs.declared.begun.Reason.{Reason as ReasonHere}
 use Rattle.redo_explain.specs.Views.{begun_view}
 use Rattle.redo_report.specs.declared.report.Row.{Row}
+use Rattle.redo_notes.specs.declared.kinds.Notes.{Notes}
 use Rattle.redo_rings.specs.declared.ring.Ring.{Ring}
 use Rattle.redo_tree.specs.Tree.{Tree}
 use Rattle.redo_which.specs.Rule.{Found, found_of}
@@ -30,13 +31,13 @@ same-known sources reasons found begun diagnoses are all =
 
 -- the text of the tokens, where what was passed is what is told of
 pub told-text : (text : List ℕ) (tokens : List Token) (known : Known) (tree sources : Tree) (given rows : List Row)
-    (these begun : List Begun) (diagnoses : List Diagnosis) (status : ℕ) (rings : List Ring) →
-    text ≡ print tokens ++ 10 ∷ [] → tokens ≡ report_tokens known status rings given →
+    (these begun : List Begun) (diagnoses : List Diagnosis) (status : ℕ) (rings : List Ring) (notes : Notes) →
+    text ≡ print tokens ++ 10 ∷ [] → tokens ≡ report_tokens known status rings notes given →
     known ≡ known_of tree (map begun_view these) diagnoses → tree ≡ sources → given ≡ rows → these ≡ begun →
-    text ≡ print (report_tokens (known_of sources (map begun_view begun) diagnoses) status rings rows) ++ 10 ∷ []
-told-text text tokens known tree sources given rows these begun diagnoses status rings is made k t g b =
+    text ≡ print (report_tokens (known_of sources (map begun_view begun) diagnoses) status rings notes rows) ++ 10 ∷ []
+told-text text tokens known tree sources given rows these begun diagnoses status rings notes is made k t g b =
     is ∙ ap (λ ts. print ts ++ 10 ∷ []) (made
-    ∙ ap (λ k. report_tokens k status rings given) k
-    ∙ ap (λ s. report_tokens (known_of s (map begun_view these) diagnoses) status rings given) t
-    ∙ ap (λ rs. report_tokens (known_of sources (map begun_view these) diagnoses) status rings rs) g
-    ∙ ap (λ bs. report_tokens (known_of sources (map begun_view bs) diagnoses) status rings rows) b)
+    ∙ ap (λ k. report_tokens k status rings notes given) k
+    ∙ ap (λ s. report_tokens (known_of s (map begun_view these) diagnoses) status rings notes given) t
+    ∙ ap (λ rs. report_tokens (known_of sources (map begun_view these) diagnoses) status rings notes rs) g
+    ∙ ap (λ bs. report_tokens (known_of sources (map begun_view bs) diagnoses) status rings notes rows) b)

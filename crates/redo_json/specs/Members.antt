@@ -1,4 +1,4 @@
--- What the rows and rings of a report are told as: tokens of JSON. `print` of the json crate gives the text of tokens.
+-- What the rows, rings and notes of a report are told as: tokens of JSON. `print` of the json crate gives their text.
 use Rattle.std.specs.Prelude.{Bool, true, false, ℕ, List, [], ◌∷◌, ◌++◌, Option, Some, None, codes, decimal, flat_map, length}
 use Rattle.std.specs.Prelude.{◌==◌, if◌then◌else◌, is_some}
 use Rattle.std.specs.Arc.{arc_value}
@@ -16,6 +16,8 @@ use Rattle.redo_report.specs.declared.report.Row.{Row}
 use Rattle.redo_diagnose.specs.Diagnoses.{line_named}
 use Rattle.redo_diagnose.specs.declared.diagnosis.Diagnosis.{Diagnosis}
 use Rattle.redo_diagnose.specs.declared.diagnosis.Place.{Place}
+use Rattle.redo_notes.specs.declared.kinds.Notes.{Notes}
+use Rattle.redo_notes.specs.declared.kinds.Unbuilt.{Unbuilt}
 use Rattle.redo_rings.specs.declared.ring.Ring.{Ring}
 use Rattle.redo_which.specs.Rule.{Found}
 use Rattle.redo_why.specs.Reasons.{Reason}
@@ -120,14 +122,38 @@ row_tokens known row =
     begin_object ∷ [] ++ path_members row.path ++ ended_members known row
     ++ begun_members known.found (known.reason row.path) ++ deps_member (arc_value row.deps) ++ end_object ∷ []
 
--- cyclic targets that ask for one another in a ring, and how many others wait for it
-abbrev pub member_tokens : List ℕ → List Token
-member_tokens path = begin_object ∷ [] ++ path_members path ++ end_object ∷ []
+-- an object that has a path alone
+abbrev pub named_tokens : List ℕ → List Token
+named_tokens path = begin_object ∷ [] ++ path_members path ++ end_object ∷ []
 
+-- a member whose value is an array of paths
+abbrev pub paths_member : List ℕ → List (List ℕ) → List Token
+paths_member name paths = (key name ∷ begin_array ∷ []) ++ flat_map named_tokens paths ++ end_array ∷ []
+
+-- cyclic targets that ask for one another in a ring, and how many others wait for it
 abbrev pub ring_tokens : Ring → List Token
 ring_tokens ring =
-    (begin_object ∷ key (codes "paths") ∷ begin_array ∷ []) ++ flat_map member_tokens ring.members.items
-    ++ end_array ∷ [] ++ number_member (codes "waiting") ring.waiting ++ end_object ∷ []
+    begin_object ∷ [] ++ paths_member (codes "paths") ring.members.items
+    ++ number_member (codes "waiting") ring.waiting ++ end_object ∷ []
 
 abbrev pub rings_member : List Ring → List Token
 rings_member rings = (key (codes "rings") ∷ begin_array ∷ []) ++ flat_map ring_tokens rings ++ end_array ∷ []
+
+abbrev pub rule_members : List ℕ → List Token
+rule_members file = text_member (codes "rule") (utf8_lossy file) ++ hex_members (codes "rule_hex") file
+
+-- a source that has a rule, and the rule's .do file
+abbrev pub unbuilt_tokens : Unbuilt → List Token
+unbuilt_tokens note = begin_object ∷ [] ++ path_members note.path ++ rule_members note.do_file ++ end_object ∷ []
+
+abbrev pub unbuilt_member : List Unbuilt → List Token
+unbuilt_member notes = (key (codes "unbuilt") ∷ begin_array ∷ []) ++ flat_map unbuilt_tokens notes ++ end_array ∷ []
+
+-- the notes of each kind, all of them
+unfoldable pub notes_tokens : Notes → List Token
+notes_tokens notes =
+    begin_object ∷ [] ++ unbuilt_member notes.unbuilt.items ++ paths_member (codes "unmade") notes.unmade.items
+    ++ paths_member (codes "ruleless") notes.ruleless.items ++ end_object ∷ []
+
+abbrev pub notes_member : Notes → List Token
+notes_member notes = key (codes "notes") ∷ notes_tokens notes

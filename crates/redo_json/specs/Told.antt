@@ -7,6 +7,7 @@ use Rattle.json.specs.Token.{Token, begin_object, end_object, begin_array, end_a
 use Rattle.redo_report.specs.declared.report.Report.{Report}
 use Rattle.redo_report.specs.declared.report.Row.{Row}
 use Rattle.redo_diagnose.specs.declared.diagnosis.Diagnosis.{Diagnosis}
+use Rattle.redo_notes.specs.declared.kinds.Notes.{Notes}
 use Rattle.redo_rings.specs.declared.ring.Ring.{Ring}
 use Rattle.redo_tree.specs.Tree.{Tree}
 use Rattle.redo_which.specs.Rule.{found_of}
@@ -16,7 +17,7 @@ use Rattle.redo_rules.specs.Build.{GivenView}
 use Rattle.redo_rules.specs.Results.{IsGiven, IsResult}
 use Rattle.redo_why.specs.Reasons.{Reason}
 use Rattle.redo_explain.specs.Explained.{AreReasons}
-use Rattle.redo_json.specs.Members.{Known, number_member, outcome_word, rings_member, row_tokens}
+use Rattle.redo_json.specs.Members.{Known, notes_member, number_member, outcome_word, rings_member, row_tokens}
 use Rattle.redo_json.specs.declared.told.Told.{Told}
 
 -- the reason for which the script of each path was begun, if it was
@@ -63,12 +64,13 @@ summary_tokens reasons rows = begin_object ∷ [] ++ built_members reasons rows 
 abbrev pub rows_tokens : Known → List Row → List Token
 rows_tokens known rows = flat_map (row_tokens known) rows
 
--- the status, the rows in the report's order, the rings, and how many rows there are of each kind
-abbrev pub report_tokens : Known → ℕ → List Ring → List Row → List Token
-report_tokens known status rings rows =
+-- the status, the rows in the report's order, the rings, the notes, and how many rows there are of each kind
+abbrev pub report_tokens : Known → ℕ → List Ring → Notes → List Row → List Token
+report_tokens known status rings notes rows =
     begin_object ∷ [] ++ number_member (codes "status") status
     ++ (key (codes "targets") ∷ begin_array ∷ []) ++ rows_tokens known rows ++ end_array ∷ []
-    ++ rings_member rings ++ key (codes "summary") ∷ [] ++ summary_tokens known.reason rows ++ end_object ∷ []
+    ++ rings_member rings ++ notes_member notes ++ key (codes "summary") ∷ [] ++ summary_tokens known.reason rows
+    ++ end_object ∷ []
 
 -- the text tells the report and what is told beside it, with some begun scripts and reasons; these are the scripts
 -- that a build of this past and request has begun, each with the reason for which it was begun, if the report is what
@@ -76,6 +78,6 @@ report_tokens known status rings rows =
 pub record IsTold (past : PastView) (report : Report) (told : Told) (text : List ℕ) : Type 0 where
   pub begun : List (List ℕ × Reason)
   pub text_is : text ≡ print (report_tokens (known_of past.sources begun told.diagnoses.now) told.status told.rings.now
-      report.rows.items) ++ 10 ∷ []
+      told.notes.now report.rows.items) ++ 10 ∷ []
   pub reasons : (limits : LimitsView) (given : GivenView) → IsGiven past.tree told.request.now limits given →
       IsResult given report → AreReasons given report begun

@@ -1,24 +1,25 @@
 //! A report, or a list of targets that are out of date, as JSON, for programs.
 //!
 //! [`json`] tells a report as one object and a newline: what became of each row, with what is wrong with it, its
-//! record, whether its script was begun and why; rings; and a summary. [`list_json`] tells a list in the same form.
-//! `docs/report.schema.json` is the schema of both.
+//! record, whether its script was begun and why; rings; notes; and a summary. [`list_json`] tells a list in the same
+//! form. `docs/report.schema.json` is the schema of both.
 //!
 //! A value that a row doesn't have is left out: `bytes` where there is no file, `reason` and `line` where nothing failed
 //! or no line is named, `diagnosis` where there is none, `why` where the script wasn't begun, `path_hex` where the path
 //! is UTF-8. A diagnosis without a place has neither `file`, `line`, `column`, `length` nor `text`, and one without words
-//! on what to do no `help`. `column` and `length` count bytes.
+//! on what to do no `help`. `column` and `length` count bytes. `rings`, and the three lists of `notes`, are there where
+//! they are empty, too.
 //!
 //! The text is written token by token with the toolchain's `json`, whose contracts say what text tokens have and that it
 //! reads back as the same tokens. A value of `serde_json` sorts the members of an object by name and stands in memory
 //! whole, while here they stand in the order of the schema. The crate stands on redo_explain for reasons, on
-//! redo_diagnose and redo_rings for failures and rings, on redo_past, redo_report and redo_list for what is told, on
-//! redo_record and redo_which for outcomes, entries and rules, on redo_book for the entries of the last run, on
-//! redo_tree for sources, on redo_path and redo_names for paths, and on `hex` for digests as text.
+//! redo_diagnose, redo_rings and redo_notes for failures, rings and notes, on redo_past, redo_report and redo_list for
+//! what is told, on redo_record and redo_which for outcomes, entries and rules, on redo_book for the entries of the last
+//! run, on redo_tree for sources, on redo_path and redo_names for paths, and on `hex` for digests as text.
 //!
 //! - `told`: the text of a report; `list`: that of a list;
 //! - `rows`: a row; `outcomes`: how a target ended; `diagnoses`: what is wrong with it; `entries`: a record;
-//! - `rings`: cyclic targets that ask for one another;
+//! - `rings`: cyclic targets that ask for one another; `notes`: what is stale;
 //! - `known`: what is known of the paths of rows;
 //! - `paths`: paths that may not be UTF-8; `members`: the tokens' writer.
 #![tactic(auto)]
@@ -28,6 +29,7 @@ mod entries;
 mod known;
 mod list;
 mod members;
+mod notes;
 mod outcomes;
 mod paths;
 mod rings;

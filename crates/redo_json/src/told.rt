@@ -7,10 +7,12 @@ ghost use Rattle.redo_json.specs.inside.Known.{known_by, reasons_by};
 
 use crate::known::{Known, Reasons};
 use crate::members::Tokens;
+use crate::notes::push_notes;
 use crate::rings::push_rings;
 use crate::rows::{count_of, push_rows};
 use redo_diagnose::Diagnosis;
 use redo_explain::reasons;
+use redo_notes::Notes;
 use redo_past::Past;
 use redo_path::Path;
 use redo_report::{Report, Row};
@@ -28,6 +30,8 @@ pub struct Told<'a> {
     /// and lengths in bytes.
     pub diagnoses: &'a [Diagnosis],
     pub rings: &'a [Ring],
+    /// All of them are told.
+    pub notes: &'a Notes,
 }
 
 /// Adds how many rows have a word.
@@ -79,7 +83,7 @@ fn tokens_of(
     told: &Told<'_>,
 ) -> Result<Tokens, AllocError>
     ensures { IfOk result (λ tokens. tokens ≡
-        report_tokens (known_by known.now) told.now.status told.now.rings.now rows.now) }
+        report_tokens (known_by known.now) told.now.status told.now.rings.now told.now.notes.now rows.now) }
 {
     let mut out = Tokens::new(alloc);
     out.begin_object()?;
@@ -88,6 +92,7 @@ fn tokens_of(
     push_rows(alloc, &mut out, known, rows)?;
     out.end_array()?;
     push_rings(alloc, &mut out, told.rings)?;
+    push_notes(alloc, &mut out, told.notes)?;
     out.key("summary")?;
     push_summary(&mut out, rows, &known.reasons)?;
     out.end_object()?;
