@@ -196,18 +196,29 @@ UNMADE = "{}: it was built without a file now, but the file of an earlier run st
 RULELESS = "{}: no rule makes it any more, and its file stays" + YOURS
 
 
-def stale(tree, requested, head):
-    """What is noted of a run over a tree that came to this report: the lines of each kind."""
+def stale_files(tree, requested, head):
+    """What is noted of a run over a tree that came to this report: sources that have a rule, each with its .do file and
+    whether it is recorded, targets that were built without a file, and targets without a rule."""
     stated, book, head = states(tree), book_of(tree), os.fsdecode(head)
     left = sources(stated, book)
     asked = {*requested, *re.findall(r"^dep change (.*)$", head, re.M)}
     bare = re.findall(r"^built none (.*)$", head, re.M)
     made = {target: at for target, (at, _) in (records(book) if book is not None else {}).items()}
     ruled = {path: rule_of(path, left) for path in {*left, *made}}
+    return (
+        [(path, ruled[path], path in made) for path in in_order(left) if path in asked and ruled[path]],
+        [path for path in in_order(bare) if stated.get(path)],
+        [path for path in in_order(made) if stated.get(path) == made[path] and not ruled[path]],
+    )
+
+
+def stale(tree, requested, head):
+    """The lines of each kind of these notes."""
+    unbuilt, unmade, ruleless = stale_files(tree, requested, head)
     return [
-        [UNBUILT.format(path, KNOWN[path in made], ruled[path]) for path in in_order(left) if path in asked and ruled[path]],
-        [UNMADE.format(path) for path in in_order(bare) if stated.get(path)],
-        [RULELESS.format(path) for path in in_order(made) if stated.get(path) == made[path] and not ruled[path]],
+        [UNBUILT.format(path, KNOWN[is_known], rule) for path, rule, is_known in unbuilt],
+        [UNMADE.format(path) for path in unmade],
+        [RULELESS.format(path) for path in ruleless],
     ]
 
 

@@ -33,6 +33,7 @@ fn as_page(
         request: &build.options.targets,
         diagnoses: &diagnosed.diagnoses,
         rings: &rings,
+        notes: &found.notes,
     };
     page(alloc, &found.past, report, &told)
 }

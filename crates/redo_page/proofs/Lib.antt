@@ -1,3 +1,4 @@
 mod EscapeLemmas
 mod LinkLemmas
+mod NoteLemmas
 mod WhyLemmas

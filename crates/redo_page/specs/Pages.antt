@@ -1,10 +1,11 @@
 -- What a page of a report has, piece by piece.
 use Rattle.std.specs.Prelude.{ℕ, ◌+◌, ◌-◌, Bool, true, false, ◌==◌, List, [], ◌∷◌, ◌++◌, Option, Some, None}
 use Rattle.std.specs.Prelude.{bytes_eq, drop, flat_map}
-use Rattle.std.specs.Prelude.{if◌then◌else◌, is_some, length, slice_get, take}
+use Rattle.std.specs.Prelude.{if◌then◌else◌, is_some, length, map, slice_get, take}
 use Rattle.std.specs.Arc.{arc_value}
 use Rattle.std.specs.List.{count_by}
 use Rattle.std.specs.Map.{lookup}
+use Rattle.bstr.specs.Text.{lines_of, without_terminator}
 use Rattle.redo_record.specs.declared.deps.Dep.{Dep}
 use Rattle.redo_record.specs.declared.deps.DepKind.{DepKind}
 use Rattle.redo_record.specs.declared.deps.DepKind.TheVariants as kinds
@@ -16,7 +17,9 @@ use Rattle.redo_report.specs.declared.report.Row.{Row}
 use Rattle.redo_diagnose.specs.declared.diagnosis.Diagnosis.{Diagnosis}
 use Rattle.redo_diagnose.specs.declared.diagnosis.Place.{Place}
 use Rattle.redo_rings.specs.declared.ring.Ring.{Ring}
-use Rattle.redo_page.specs.Parts.{Piece, Fixed, Number, Text, a_tag, a_word, of_failure, of_ring, of_row, of_sum}
+use Rattle.redo_notes.specs.Texts.{ruleless_line, unbuilt_line, unmade_line}
+use Rattle.redo_notes.specs.declared.kinds.Notes.{Notes}
+use Rattle.redo_page.specs.Parts.{Piece, Fixed, Number, Text, a_tag, a_word, of_failure, of_note, of_ring, of_row, of_sum}
 use Rattle.redo_page.specs.Parts.{word_bytes}
 use Rattle.redo_page.specs.declared.parts.Part.TheVariants as parts
 use Rattle.redo_page.specs.declared.parts.Word.{Word}
@@ -25,6 +28,7 @@ use Rattle.redo_page.specs.declared.parts.Tag.TheVariants as tags
 use Rattle.redo_page.specs.declared.parts.SumPart.TheVariants as sum_parts
 use Rattle.redo_page.specs.declared.parts.FailurePart.TheVariants as failure_parts
 use Rattle.redo_page.specs.declared.parts.RingPart.TheVariants as ring_parts
+use Rattle.redo_page.specs.declared.parts.NotePart.TheVariants as note_parts
 use Rattle.redo_page.specs.declared.parts.RowPart.TheVariants as row_parts
 use Rattle.redo_page.specs.declared.whole.Told.{Told}
 
@@ -198,6 +202,28 @@ rings_pieces known rings =
     if length rings == 0 then [] else
     (of_ring ring_parts.Begin ∷ []) ++ flat_map (ring_pieces known) rings ++ a_tag tags.SectionEnd ∷ []
 
+-- Notes
+
+-- the lines of all notes, however many there are
+abbrev pub all_lines : Notes → List ℕ
+all_lines notes =
+    flat_map unbuilt_line notes.unbuilt.items ++ flat_map unmade_line notes.unmade.items
+    ++ flat_map ruleless_line notes.ruleless.items
+
+-- the lines of a text, without their ends
+abbrev pub lines_in : List ℕ → List (List ℕ)
+lines_in text = map without_terminator (lines_of text)
+
+abbrev pub line_pieces : List ℕ → List Piece
+line_pieces line = of_note note_parts.Note ∷ Text line ∷ a_tag tags.LineEnd ∷ []
+
+-- the notes, each a line, if there is one
+abbrev pub notes_pieces : Notes → List Piece
+notes_pieces notes =
+    if length (all_lines notes) == 0 then [] else
+    (of_note note_parts.Begin ∷ []) ++ flat_map line_pieces (lines_in (all_lines notes))
+    ++ of_note note_parts.End ∷ []
+
 -- Rows
 
 -- an entry of a record, by the number of its path's row; `always` has no path
@@ -288,7 +314,7 @@ rows_pieces known all n (row ∷ rows) = row_pieces known all n row ++ rows_piec
 abbrev pub top_pieces : Known → Told → List Row → List Piece
 top_pieces known told rows =
     (Fixed parts.Head ∷ []) ++ summary_pieces known told.status rows ++ failures_pieces known told.diagnoses.now
-    ++ rings_pieces known told.rings.now
+    ++ rings_pieces known told.rings.now ++ notes_pieces told.notes.now
 
 abbrev pub table_pieces : Known → List Row → List Piece
 table_pieces known rows = (Fixed parts.Middle ∷ []) ++ rows_pieces known rows 0 rows ++ Fixed parts.Tail ∷ []

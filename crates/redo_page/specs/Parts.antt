@@ -17,6 +17,8 @@ use Rattle.redo_page.specs.declared.parts.FailurePart.{FailurePart}
 use Rattle.redo_page.specs.declared.parts.FailurePart.TheVariants as failure_parts
 use Rattle.redo_page.specs.declared.parts.RingPart.{RingPart}
 use Rattle.redo_page.specs.declared.parts.RingPart.TheVariants as ring_parts
+use Rattle.redo_page.specs.declared.parts.NotePart.{NotePart}
+use Rattle.redo_page.specs.declared.parts.NotePart.TheVariants as note_parts
 use Rattle.redo_page.specs.declared.parts.RowPart.{RowPart}
 use Rattle.redo_page.specs.declared.parts.RowPart.TheVariants as row_parts
 use Rattle.redo_page.specs.declared.parts.ListPart.{ListPart}
@@ -74,6 +76,11 @@ ring_bytes ring_parts.Ring = codes "<ol class=\"ring\">\n"
 ring_bytes ring_parts.Member = codes "<li>"
 ring_bytes ring_parts.Waiting = codes "</ol>\n<p>Not in the ring, but waiting for it: "
 
+abbrev pub note_bytes : NotePart → List ℕ
+note_bytes note_parts.Begin = codes "<section id=\"notes\"><h2>Notes</h2>\n<ul>\n"
+note_bytes note_parts.Note = codes "<li>"
+note_bytes note_parts.End = codes "</ul>\n</section>\n"
+
 abbrev pub row_bytes : RowPart → List ℕ
 row_bytes row_parts.Begin = codes "<tr class=\""
 row_bytes row_parts.Path = codes "\"><th scope=\"row\"><details><summary>"
@@ -104,6 +111,7 @@ part_bytes (parts.Tag it) = tag_bytes it
 part_bytes (parts.Sum it) = sum_bytes it
 part_bytes (parts.Failure it) = failure_bytes it
 part_bytes (parts.Ring it) = ring_bytes it
+part_bytes (parts.Note it) = note_bytes it
 part_bytes (parts.Row it) = row_bytes it
 part_bytes (parts.List it) = list_bytes it
 part_bytes (parts.State it) = state_word it
@@ -142,6 +150,9 @@ of_failure it = Fixed (parts.Failure it)
 
 abbrev pub of_ring : RingPart → Piece
 of_ring it = Fixed (parts.Ring it)
+
+abbrev pub of_note : NotePart → Piece
+of_note it = Fixed (parts.Note it)
 
 abbrev pub of_row : RowPart → Piece
 of_row it = Fixed (parts.Row it)

@@ -1,6 +1,6 @@
 //! A report as one page of HTML that needs nothing else.
 //!
-//! [`page`] tells a report with its failures, rings and reasons, [`list_page`] which targets are out of date. A page
+//! [`page`] tells a report with its failures, rings, notes and reasons, [`list_page`] which targets are out of date. A page
 //! is made of fixed parts, decimal numbers and texts alone. Each text is escaped, and stands in the content of an
 //! element: never in a tag, an attribute, the style, the script or the title. What differs between two pages is never
 //! read as markup.
@@ -10,10 +10,11 @@
 //! run, and nothing be fetched.
 //!
 //! The crate stands on redo_report and redo_record for what is told, on redo_explain for reasons, on redo_past and
-//! redo_tree for what a build went on from, on redo_diagnose for failures, on redo_rings for rings, on redo_list for
-//! lists, on redo_path and redo_names for paths, and on `itoa` for decimal numbers.
+//! redo_tree for what a build went on from, on redo_diagnose for failures, on redo_rings for rings, on redo_notes for
+//! notes, on redo_list for lists, on redo_path and redo_names for paths, on `bstr` for the lines of a text, and on `itoa`
+//! for decimal numbers.
 //!
-//! - `whole`: the page of a report, from `summary`, `failures`, `rings` and `rows`; `list`: the page of a list;
+//! - `whole`: the page of a report, from `summary`, `failures`, `rings`, `notes` and `rows`; `list`: the page of a list;
 //! - `links`: which row has a path, and which rows need it; `whys`: why scripts were begun;
 //! - `writer`: what is written, and how; `escape`: texts; `parts`: fixed parts, of which `head`, `middle` and `tail`
 //!   are long.
@@ -25,6 +26,7 @@ mod head;
 mod links;
 mod list;
 mod middle;
+mod notes;
 mod parts;
 mod rings;
 mod rows;

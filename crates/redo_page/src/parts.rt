@@ -1,8 +1,8 @@
 //! Fixed parts of a page.
 
 ghost use Rattle.std.specs.Prelude.{◌≡◌};
-ghost use Rattle.redo_page.specs.Parts.{failure_bytes, list_bytes, part_bytes, ring_bytes, row_bytes, sum_bytes};
-ghost use Rattle.redo_page.specs.Parts.{tag_bytes, word_bytes};
+ghost use Rattle.redo_page.specs.Parts.{failure_bytes, list_bytes, note_bytes, part_bytes, ring_bytes, row_bytes};
+ghost use Rattle.redo_page.specs.Parts.{sum_bytes, tag_bytes, word_bytes};
 
 use crate::head::HEAD;
 use crate::middle::MIDDLE;
@@ -23,6 +23,7 @@ pub(crate) enum Part {
     Sum(SumPart),
     Failure(FailurePart),
     Ring(RingPart),
+    Note(NotePart),
     Row(RowPart),
     List(ListPart),
     State(State),
@@ -41,6 +42,7 @@ impl Part {
             Part::Sum(part) => part.bytes(),
             Part::Failure(part) => part.bytes(),
             Part::Ring(part) => part.bytes(),
+            Part::Note(part) => part.bytes(),
             Part::Row(part) => part.bytes(),
             Part::List(part) => part.bytes(),
             Part::State(state) => state.word().as_bytes(),
@@ -202,6 +204,26 @@ impl RingPart {
             RingPart::Ring => b"<ol class=\"ring\">\n",
             RingPart::Member => b"<li>",
             RingPart::Waiting => b"</ol>\n<p>Not in the ring, but waiting for it: ",
+        }
+    }
+}
+
+/// Parts of the notes.
+#[derive(Clone, Copy)]
+pub(crate) enum NotePart {
+    Begin,
+    Note,
+    End,
+}
+
+impl NotePart {
+    fn bytes(self) -> &'static [u8]
+        ensures { result.now ≡ note_bytes self }
+    {
+        match self {
+            NotePart::Begin => b"<section id=\"notes\"><h2>Notes</h2>\n<ul>\n",
+            NotePart::Note => b"<li>",
+            NotePart::End => b"</ul>\n</section>\n",
         }
     }
 }

@@ -9,6 +9,7 @@ ghost use Rattle.redo_page.specs.inside.Links.{known_by};
 
 use crate::failures::push_failures;
 use crate::links::Links;
+use crate::notes::push_notes;
 use crate::parts::Part;
 use crate::rings::push_rings;
 use crate::rows::push_rows;
@@ -17,6 +18,7 @@ use crate::whys::whys_of;
 use crate::writer::Writer;
 use redo_diagnose::Diagnosis;
 use redo_explain::reasons;
+use redo_notes::Notes;
 use redo_past::Past;
 use redo_path::Path;
 use redo_report::{Report, Row};
@@ -33,10 +35,13 @@ pub struct Told<'a> {
     /// In the order in which they are shown. One whose target has no row isn't.
     pub diagnoses: &'a [Diagnosis],
     pub rings: &'a [Ring],
+    /// All of them are shown.
+    pub notes: &'a Notes,
 }
 
 /// Adds what comes before the table.
 fn push_top(
+    alloc: Global,
     out: &mut Writer,
     links: &Links<'_>,
     rows: &[Row],
@@ -47,7 +52,8 @@ fn push_top(
     out.fixed(Part::Head)?;
     push_summary(out, links, told.status, rows)?;
     push_failures(out, links, told.diagnoses)?;
-    push_rings(out, links, told.rings)
+    push_rings(out, links, told.rings)?;
+    push_notes(alloc, out, told.notes)
 }
 
 /// Adds the table, and the end of the page.
@@ -74,7 +80,7 @@ fn page_of(
     ensures { IfOk result (λ text. text.items ≡ text_of (page_pieces (known_by links.now) told.now rows.now)) }
 {
     let mut out = Writer::new(alloc);
-    push_top(&mut out, links, rows, told)?;
+    push_top(alloc, &mut out, links, rows, told)?;
     push_table(alloc, &mut out, links, rows)?;
     Ok(out.into_bytes())
 }
