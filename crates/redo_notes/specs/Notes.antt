@@ -3,6 +3,7 @@ use Rattle.std.specs.Prelude.{◌&&◌, ◌||◌, Bool, true, false, ℕ, List, 
 use Rattle.std.specs.Prelude.{if◌then◌else◌, is_none, is_some, option_map}
 use Rattle.std.specs.Arc.{arc_value}
 use Rattle.std.specs.List.{list_any}
+use Rattle.redo_path.specs.Names.{below_of}
 use Rattle.redo_names.specs.Paths.{is_among}
 use Rattle.redo_tree.specs.Tree.{Node, Tree, bytes_of, file_at}
 use Rattle.redo_which.specs.Rule.{chosen_of}
@@ -50,6 +51,14 @@ shadowed_at sources e = if is_some (bytes_of e.1) && is_some (do_file_of sources
 -- all sources that have a rule, in path order, whether they are asked for or not
 abbrev pub shadowed : PastView → List (List ℕ)
 shadowed past = filter_map (shadowed_at past.sources) past.sources
+
+-- a path is one of these places, or below one
+abbrev pub is_within : List (List ℕ) → List ℕ → Bool
+is_within places path = list_any (λ place. is_some (below_of path place)) places
+
+-- the sources that have a rule, at these places and below them
+abbrev pub shadowed_within : PastView → List (List ℕ) → List (List ℕ)
+shadowed_within past places = filter (is_within places) (shadowed past)
 
 -- built without a file
 abbrev pub is_bare : Outcome → Bool

@@ -8,6 +8,7 @@ ghost use Rattle.redo_book.specs.Book.{record_of};
 ghost use Rattle.redo_past.specs.Past.{is_generated as was_generated};
 ghost use Rattle.redo_notes.specs.Notes.{do_file_of as file_of_rule, is_ruleless as has_no_rule, is_unmade as was_unmade};
 ghost use Rattle.redo_notes.specs.Notes.{has_record as is_recorded, shadowed as shadowed_in, shadowed_at as shadowed_by};
+ghost use Rattle.redo_notes.specs.Notes.{is_within as stands_within, shadowed_within as shadowed_in_places};
 ghost use Rattle.redo_notes.specs.Notes.{ruleless as ruleless_in, unbuilt as unbuilt_in, unbuilt_at as unbuilt_by, unmade as unmade_in};
 
 use crate::asked::asked_by;
@@ -137,6 +138,27 @@ pub fn shadowed(alloc: Global, past: &Past) -> Result<Vec<Path>, AllocError>
         add_path(&mut paths, found)?;
     }
     Ok(paths)
+}
+
+/// Whether a path is one of these places, or below one.
+fn is_within(path: &Path, places: &[Path]) -> bool
+    ensures { result ≡ stands_within places.now path.now }
+{
+    places.iter().any(|place| path.below(place).is_some())
+}
+
+/// The sources that have a rule, at these places and below them, in path order.
+pub fn shadowed_within(alloc: Global, past: &Past, places: &[Path]) -> Result<Vec<Path>, AllocError>
+    ensures { IfOk result (λ paths. paths.items ≡ shadowed_in_places past.now places.now) }
+{
+    let all = shadowed(alloc, past)?;
+    let mut within = Vec::new(alloc);
+    for path in &all {
+        if is_within(path, places) {
+            within.push(path.clone()?)?;
+        }
+    }
+    Ok(within)
 }
 
 /// Whether a row was built without a file, where the tree has one at its path.

@@ -2,7 +2,7 @@
 //!
 //! [`notes`] compares what a run took over from the last one with what the build came to: files that were taken for
 //! sources although a rule would make them, and files of earlier runs that no run makes any more. [`shadowed`] has all
-//! sources that have a rule, without a build. The crate stands on
+//! sources that have a rule, without a build, and [`shadowed_within`] those below some places. The crate stands on
 //! redo_past for the former and on redo_report for the latter, on redo_which for the search for a rule, and on the crates
 //! below for what these hold.
 //!
@@ -15,6 +15,6 @@ mod finding;
 mod kinds;
 mod text;
 
-pub use finding::{notes, shadowed};
+pub use finding::{notes, shadowed, shadowed_within};
 pub use kinds::{Notes, Unbuilt};
 pub use text::{text_of, text_of_shadowed};
