@@ -5,7 +5,7 @@ use Rattle.redo_dir.specs.Loaded.{IsLoaded}
 use Rattle.redo_dir.specs.Stored.{Step}
 use Rattle.redo_mend.specs.Mended.{MendsTo}
 use Rattle.redo_tree.specs.Tree.{Node, Tree}
-use Rattle.redo_run.specs.Directories.{FallsInPreview, IsFaultOf, IsUnbuilt, IsUnmended, IsUnread, Ran}
+use Rattle.redo_run.specs.Directories.{FallsInPreview, IsFaultOf, IsUnbuilt, IsUnmended, IsUnread, Ran, to_build}
 use Rattle.redo_run.specs.Storing.{clearing, storing, to_store}
 use Rattle.redo_run.specs.inside.Foreseen.{IsUnforeseen}
 use Rattle.redo_run.specs.inside.Storing.{IsPart}
@@ -25,11 +25,11 @@ module _ (lists : List ℕ → List (Option (List ℕ)) → Type 0) (leads : Lis
   unmended loaded passed Memory l h = tt
   unmended loaded passed _ l h = absurd h
 
-  pub unbuilt : (loaded tree : Tree) (passed : ℕ) (fault : RunDirFault) → IsLoaded lists leads loaded passed → MendsTo loaded tree → IsUnbuilt tree options fault → IsUnforeseen lists leads refuses options fault
-  unbuilt loaded tree passed (Book n) l m h = record { loaded = loaded; passed = passed; is_loaded = l; why = inr (tree, m, h) }
-  unbuilt loaded tree passed TooMany l m h = record { loaded = loaded; passed = passed; is_loaded = l; why = inr (tree, m, h) }
-  unbuilt loaded tree passed Memory l m h = tt
-  unbuilt loaded tree passed _ l m h = absurd h
+  pub unbuilt : (loaded mended : Tree) (passed : ℕ) (fault : RunDirFault) → IsLoaded lists leads loaded passed → MendsTo loaded mended → IsUnbuilt (to_build options mended) options fault → IsUnforeseen lists leads refuses options fault
+  unbuilt loaded mended passed (Book n) l m h = record { loaded = loaded; passed = passed; is_loaded = l; why = inr (mended, m, h) }
+  unbuilt loaded mended passed TooMany l m h = record { loaded = loaded; passed = passed; is_loaded = l; why = inr (mended, m, h) }
+  unbuilt loaded mended passed Memory l m h = tt
+  unbuilt loaded mended passed _ l m h = absurd h
 
   -- a run that stores nothing tells the same
   pub in_preview : (fault : RunDirFault) → IsUnforeseen lists leads refuses options fault → FallsInPreview lists leads refuses options fault
@@ -49,7 +49,7 @@ module _ (lists : List ℕ → List (Option (List ℕ)) → Type 0) (leads : Lis
   unforeseen Memory h = inl refl
   unforeseen _ h = absurd h
 
-  pub undone_fault : (r : Ran lists leads options) (after : List Step) (fault : RunDirFault) → IsPart told (clearing r.loaded r.tree) (storing r.tree (to_store r.tree r.report.files.items)) before after fault → IsFaultOf lists leads refuses told options before after fault
+  pub undone_fault : (r : Ran lists leads options) (after : List Step) (fault : RunDirFault) → IsPart told (clearing r.loaded r.mended) (storing r.mended (to_store r.mended r.report.files.items)) before after fault → IsFaultOf lists leads refuses told options before after fault
   undone_fault r after (Store place) h = (r, h)
   undone_fault r after Journal h = (r, h)
   undone_fault r after Left h = (r, h.0, h.1, h.2)

@@ -1,7 +1,7 @@
 -- What a run over a directory comes to. What the directory holds is known to no contract: it has the tree by what it
 -- answered when it was listed and looked at.
-use Rattle.std.specs.Prelude.{◌≡◌, ◌↔◌, ◌++◌, ◌⊎◌, ◌+◌, ◌<◌, suc, Bool, true, false, IsTrue, IsSome, ℕ, List, Option, Result}
-use Rattle.std.specs.Prelude.{Ok, Err, None, length, take}
+use Rattle.std.specs.Prelude.{◌≡◌, ◌↔◌, ◌++◌, ◌⊎◌, ◌+◌, ◌<◌, ◌==◌, suc, Bool, true, false, IsTrue, IsSome, ℕ, List, Option, Result}
+use Rattle.std.specs.Prelude.{Ok, Err, None, if◌then◌else◌, length, take}
 use Rattle.std.specs.Arc.{arc_value}
 use Rattle.std.specs.Io.KnownBytes.{Appends}
 use Rattle.std.specs.declared.io.ErrorKind.{ErrorKind}
@@ -9,7 +9,7 @@ use Rattle.redo_rules.specs.Build.{GivenView}
 use Rattle.redo_rules.specs.Results.{IsGiven, IsRefused, IsResult, NeedsTooMany as TreeNeedsTooMany}
 use Rattle.redo_report.specs.ReportText.{report_text}
 use Rattle.redo_report.specs.declared.report.Report.{Report}
-use Rattle.redo_tree.specs.Tree.{Node, Tree, file_at}
+use Rattle.redo_tree.specs.Tree.{Node, Tree, file_at, without}
 use Rattle.redo_which.specs.Candidates.{book_path, journal_path}
 use Rattle.redo_which.specs.Rule.{chosen_of}
 use Rattle.redo_dir.specs.Loaded.{Clash, IsLoaded}
@@ -27,6 +27,10 @@ use Rattle.redo_run.specs.Exits.{IsExitOf}
 use Rattle.redo_run.specs.Runs.{request_in}
 use Rattle.redo_run.specs.Storing.{StopsAt, clearing, storing, to_store}
 use Rattle.redo_run.specs.Skipping.{IsSoundFor, IsUnsafeOn}
+
+-- a tree as a build sees it: without the files that are to be taken back
+abbrev pub to_build : Options → Tree → Tree
+to_build options tree = if length options.taken.items == 0 then tree else without tree options.taken.items
 
 -- a tree was built, and this is its report
 pub record IsBuilt (tree : Tree) (options : Options) (report : Report) (exit : Exit) : Type 0 where
@@ -84,45 +88,52 @@ IsUnread lists leads refuses Load = IsUnreadable lists leads refuses
 IsUnread lists leads refuses Memory = Unit {0}
 IsUnread lists leads refuses _ = ⊥
 
--- a tree was loaded, mended and built
+-- a tree was loaded and mended, and built without what is to be taken back
 pub record Ran (lists : List ℕ → List (Option (List ℕ)) → Type 0) (leads : List ℕ → Option Node → Type 0) (options : Options) : Type 0 where
   pub loaded : Tree
   pub passed : ℕ
   pub is_loaded : IsLoaded lists leads loaded passed
-  pub tree : Tree
-  pub mends : MendsTo loaded tree
+  pub mended : Tree
+  pub mends : MendsTo loaded mended
   pub report : Report
   pub exit : Exit
-  pub built : IsBuilt tree options report exit
+  pub built : IsBuilt (to_build options mended) options report exit
 
--- the steps by which a run over this tree clears away and stores, which was mended to that one and has this report
+-- the steps by which a run over this tree clears away and stores, which was mended to that one, and whose build has this
+-- report
 abbrev pub steps_of : Tree → Tree → Report → List Step
-steps_of loaded tree report = clearing loaded tree ++ storing tree (to_store tree report.files.items)
+steps_of loaded mended report = clearing loaded mended ++ storing mended (to_store mended report.files.items)
 
--- A tree was loaded, and mended to the one that was built; all steps were done by which what a broken-off run had left is
--- cleared away and the build is stored; and the writer took the report, without the files, and nothing else.
+-- A tree was loaded and mended, and built without what is to be taken back; all steps were done by which what a broken-off
+-- run had left is cleared away and the build is stored; and the writer took the report, without the files, and nothing
+-- else.
 pub record ReportsTree (lists : List ℕ → List (Option (List ℕ)) → Type 0) (leads : List ℕ → Option Node → Type 0) (options : Options) (before after : List Step) (old new : Option (List ℕ)) (run : DirRun) : Type 0 where
   pub loaded : Tree
   pub is_loaded : IsLoaded lists leads loaded run.passed
-  pub mends : MendsTo loaded (arc_value run.tree)
-  pub built : IsBuilt (arc_value run.tree) options run.report run.exit
-  pub done : after ≡ before ++ steps_of loaded (arc_value run.tree) run.report
+  pub mended : Tree
+  pub mends : MendsTo loaded mended
+  pub tree : arc_value run.tree ≡ to_build options mended
+  pub built : IsBuilt (to_build options mended) options run.report run.exit
+  pub done : after ≡ before ++ steps_of loaded mended run.report
   pub written : Appends old new (report_text run.report false)
 
--- a tree was loaded, and its book is refused for this line, or the mended tree isn't built for this reason
+-- a tree was loaded, and its book is refused for this line, or the mended tree isn't built for this reason, without what
+-- is to be taken back
 pub record Stays (lists : List ℕ → List (Option (List ℕ)) → Type 0) (leads : List ℕ → Option Node → Type 0) (options : Options) (fault : RunDirFault) : Type 0 where
   pub loaded : Tree
   pub passed : ℕ
   pub is_loaded : IsLoaded lists leads loaded passed
-  pub why : IsUnmended loaded fault ⊎ ((tree : Tree) × MendsTo loaded tree × IsUnbuilt tree options fault)
+  pub why : IsUnmended loaded fault ⊎ ((mended : Tree) × MendsTo loaded mended × IsUnbuilt (to_build options mended) options fault)
 
--- a tree was loaded, and mended to the one that was built; and the writer took the report, without the files, and nothing
--- else
+-- a tree was loaded and mended, and built without what is to be taken back; and the writer took the report, without the
+-- files, and nothing else
 pub record PreviewsTree (lists : List ℕ → List (Option (List ℕ)) → Type 0) (leads : List ℕ → Option Node → Type 0) (options : Options) (old new : Option (List ℕ)) (run : DirRun) : Type 0 where
   pub loaded : Tree
   pub is_loaded : IsLoaded lists leads loaded run.passed
-  pub mends : MendsTo loaded (arc_value run.tree)
-  pub built : IsBuilt (arc_value run.tree) options run.report run.exit
+  pub mended : Tree
+  pub mends : MendsTo loaded mended
+  pub tree : arc_value run.tree ≡ to_build options mended
+  pub built : IsBuilt (to_build options mended) options run.report run.exit
   pub written : Appends old new (report_text run.report false)
 
 -- why a run that stores nothing has no report
@@ -142,16 +153,16 @@ IsFaultOf lists leads refuses told options before after (Book n) =
 IsFaultOf lists leads refuses told options before after TooMany =
     Stays lists leads options TooMany × (after ≡ before)
 IsFaultOf lists leads refuses told options before after (Store place) =
-    (r : Ran lists leads options) × StopsAt told (steps_of r.loaded r.tree r.report) before after (length (clearing r.loaded r.tree) + suc place)
+    (r : Ran lists leads options) × StopsAt told (steps_of r.loaded r.mended r.report) before after (length (clearing r.loaded r.mended) + suc place)
 IsFaultOf lists leads refuses told options before after Journal =
-    (r : Ran lists leads options) × StopsAt told (steps_of r.loaded r.tree r.report) before after (length (clearing r.loaded r.tree))
+    (r : Ran lists leads options) × StopsAt told (steps_of r.loaded r.mended r.report) before after (length (clearing r.loaded r.mended))
 IsFaultOf lists leads refuses told options before after Left =
-    (r : Ran lists leads options) × (count : ℕ) × (count < length (clearing r.loaded r.tree)) × StopsAt told (steps_of r.loaded r.tree r.report) before after count
+    (r : Ran lists leads options) × (count : ℕ) × (count < length (clearing r.loaded r.mended)) × StopsAt told (steps_of r.loaded r.mended r.report) before after count
 IsFaultOf lists leads refuses told options before after Device =
-    (r : Ran lists leads options) × (after ≡ before ++ steps_of r.loaded r.tree r.report)
+    (r : Ran lists leads options) × (after ≡ before ++ steps_of r.loaded r.mended r.report)
 IsFaultOf lists leads refuses told options before after Memory =
     (after ≡ before) ⊎
-    ((r : Ran lists leads options) × (count : ℕ) × (after ≡ before ++ take count (steps_of r.loaded r.tree r.report)))
+    ((r : Ran lists leads options) × (count : ℕ) × (after ≡ before ++ take count (steps_of r.loaded r.mended r.report)))
 
 -- a tree was loaded, and the writer took the list of the target's candidates in it, and nothing else
 pub record ListsTree (lists : List ℕ → List (Option (List ℕ)) → Type 0) (leads : List ℕ → Option Node → Type 0) (target : List ℕ) (old new : Option (List ℕ)) (found : Bool) (passed : ℕ) : Type 0 where

@@ -6,7 +6,7 @@ ghost use Rattle.redo_tree.specs.Tree.{file_at};
 ghost use Rattle.redo_dir.specs.Loaded.{IsLoaded};
 ghost use Rattle.redo_run.specs.DirFaults.{of_load};
 ghost use Rattle.redo_run.specs.Directories.{FallsInList, IsBuilt, IsBlocked, IsFaultOf, IsRefusedBy, IsUnbuilt, IsUnread};
-ghost use Rattle.redo_run.specs.Directories.{FallsInPreview, IsUnwritten, ListsTree, PreviewsTree, ReportsTree};
+ghost use Rattle.redo_run.specs.Directories.{FallsInPreview, IsUnwritten, ListsTree, PreviewsTree, ReportsTree, to_build};
 ghost use Rattle.redo_run.specs.inside.Foreseen.{IsForeseen, IsUnforeseen};
 ghost use Rattle.redo_run.specs.inside.Loading.{HasNoPlace};
 ghost use Rattle.redo_which.specs.Candidates.{book_path};
@@ -37,7 +37,7 @@ pub struct DirRun {
     pub exit: Exit,
     /// How many names were passed over, as `load_dir` says.
     pub passed: u64,
-    /// The tree that was built: as it was loaded, or mended.
+    /// The tree that was built: as it was loaded, or mended, without the files that were to be taken back.
     pub tree: Arc<Tree>,
     /// The report, with the files that were built or kept and the new book.
     pub report: Report,
@@ -193,10 +193,42 @@ fn build<H: Threads + Wait + Sync, O: Observer>(
     Ok(Built { tree, report, exit })
 }
 
+/// What a build came to without the files that are to be taken back, and the tree that has them.
+#[derive(Drop)]
+struct OfMended {
+    mended: Arc<Tree>,
+    built: Built,
+}
+
+/// Builds the targets of a mended tree without the files that are to be taken back.
+fn build_mended<H: Threads + Wait + Sync, O: Observer>(
+    host: &Host<'_, H, O>,
+    mended: Tree,
+    options: &Options,
+) -> Result<OfMended, RunDirFault>
+    ensures mended { IfOk result (λ of. arc_value of.mended ≡ mended) }
+    ensures tree { IfOk result (λ of. arc_value of.built.tree ≡ to_build options.now mended) }
+    ensures built { IfOk result (λ of.
+        IsBuilt (to_build options.now mended) options.now of.built.report of.built.exit) }
+    ensures refused { IfErr result (IsUnbuilt (to_build options.now mended) options.now) }
+{
+    if options.taken.is_empty() {
+        let built = build(host, mended, options)?;
+        let mended = Arc::try_clone(&built.tree)?;
+        return Ok(OfMended { mended, built });
+    }
+    let tree = mended.without(host.alloc, &options.taken)?;
+    let built = build(host, tree, options)?;
+    let mended = Arc::new(host.alloc, mended)?;
+    Ok(OfMended { mended, built })
+}
+
 /// What a run over a directory came to, and what is left to be done to the directory.
 #[derive(Drop)]
 struct Foreseen {
     run: DirRun,
+    /// The mended tree, over which is stored.
+    mended: Arc<Tree>,
     plan: Plan,
 }
 
@@ -215,8 +247,9 @@ where
     let (tree, passed) = load_with_book(host.rt, host.alloc, dir, options.workers, cause)?;
     let over = has_book(host.alloc, &tree)?;
     let Mended { tree, left } = mend(host.rt, host.alloc, options.workers, tree)?;
-    let Built { tree, report, exit } = build(host, tree, options)?;
-    let new = to_store(host.alloc, &tree, &report.files)?;
+    let OfMended { mended, built } = build_mended(host, tree, options)?;
+    let Built { tree, report, exit } = built;
+    let new = to_store(host.alloc, &mended, &report.files)?;
     let plan = Plan {
         left,
         over,
@@ -229,7 +262,7 @@ where
         tree,
         report,
     };
-    Ok(Foreseen { run, plan })
+    Ok(Foreseen { run, mended, plan })
 }
 
 /// Reads a directory with all that is below it, builds the targets of its sources, stores the files that were built and
@@ -239,6 +272,9 @@ where
 ///
 /// Where a run was broken off while it stored its files, the tree is mended first: its files count as built, as its
 /// journal tells.
+///
+/// The build doesn't see the files that are to be taken back, and what it makes is stored over them. One that it doesn't
+/// make stays.
 ///
 /// Nothing is written before the build has answered. Then what a broken-off run has left is cleared away, and the new book
 /// is written as the journal; the journal becomes the book once the other files are stored. Where a file can't be stored,
@@ -264,8 +300,8 @@ where
     ensures untouched { IsUnwritten result writer.old writer.new }
     ensures device { IsErrOf result RunDirFault.Device ↔ (W.has_failed writer.new ≡ true) }
 {
-    let Foreseen { run, plan } = foresee(host, dir, options, cause)?;
-    carry_out(host, dir, &run.tree, &plan, cause)?;
+    let Foreseen { run, mended, plan } = foresee(host, dir, options, cause)?;
+    carry_out(host, dir, &mended, &plan, cause)?;
     write_report(writer, &run.report, false)?;
     Ok(run)
 }
@@ -288,10 +324,7 @@ where
     ensures untouched { IsUnwritten result writer.old writer.new }
     ensures device { IsErrOf result RunDirFault.Device ↔ (W.has_failed writer.new ≡ true) }
 {
-    let Foreseen {
-        run: preview,
-        plan: _,
-    } = foresee(host, dir, options, cause)?;
+    let Foreseen { run: preview, .. } = foresee(host, dir, options, cause)?;
     write_report(writer, &preview.report, false)?;
     Ok(preview)
 }

@@ -10,6 +10,9 @@ use redo_step::Limits;
 pub struct Options {
     /// The requested paths; `all` if there are none.
     pub targets: Vec<Path>,
+    /// The files of a directory that a run takes back, by their paths: the build sees none of them, and what it makes is
+    /// stored over them. A run over a bundle takes nothing back.
+    pub taken: Vec<Path>,
     /// At most this many scripts run side by side, 1 to 64.
     pub workers: usize,
     pub limits: Limits,

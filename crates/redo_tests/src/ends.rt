@@ -68,6 +68,7 @@ fn run_to<R: Threads + Wait + Sync, W: ByteOut>(
 {
     let options = Options {
         targets: paths_of(alloc, "hello")?,
+        taken: Vec::new(alloc),
         workers: 1,
         limits: limits_of(1)?,
     };

@@ -68,6 +68,7 @@ fn both_must_be_inside_a_run(rt: HostRuntime) -> Result<(), Fail> {
         };
         let options = Options {
             targets: paths_of(alloc, words)?,
+            taken: Vec::new(alloc),
             workers: 2,
             limits: limits_of(3)?,
         };

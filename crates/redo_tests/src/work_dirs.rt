@@ -49,6 +49,7 @@ fn ran<H: Threads + Wait + Sync>(
 ) -> Result<Result<(Exit, u64), RunDirFault>, Fail> {
     let options = Options {
         targets: paths_of(alloc, targets)?,
+        taken: Vec::new(alloc),
         workers: workers.clamp(1, 64),
         limits: limits_of(9)?,
     };

@@ -5,7 +5,7 @@ use Rattle.std.specs.declared.io.ErrorKind.{ErrorKind}
 use Rattle.redo_tree.specs.Tree.{Node, Tree}
 use Rattle.redo_dir.specs.Loaded.{IsLoaded}
 use Rattle.redo_mend.specs.Mended.{MendsTo}
-use Rattle.redo_run.specs.Directories.{IsBuilt, IsUnreadable, Stays}
+use Rattle.redo_run.specs.Directories.{IsBuilt, IsUnreadable, Stays, to_build}
 use Rattle.redo_run.specs.Storing.{clearing, storing, to_store}
 use Rattle.redo_run.specs.inside.Storing.{steps_left, steps_new}
 use Rattle.redo_run.specs.declared.directory.Foreseen.{Foreseen}
@@ -13,14 +13,16 @@ use Rattle.redo_run.specs.declared.options.Options.{Options}
 use Rattle.redo_run.specs.declared.dir_fault.RunDirFault.{RunDirFault}
 use Rattle.redo_run.specs.declared.dir_fault.RunDirFault.TheVariants.{Load, Book, TooMany, Memory}
 
--- a tree was loaded, mended and built, and what is planned are the steps by which that is stored
+-- a tree was loaded, mended and built without what is to be taken back, and what is planned are the steps by which that is
+-- stored
 pub record IsForeseen (lists : List ℕ → List (Option (List ℕ)) → Type 0) (leads : List ℕ → Option Node → Type 0) (options : Options) (f : Foreseen) : Type 0 where
   pub loaded : Tree
   pub is_loaded : IsLoaded lists leads loaded f.run.passed
-  pub mends : MendsTo loaded (arc_value f.run.tree)
-  pub built : IsBuilt (arc_value f.run.tree) options f.run.report f.run.exit
-  pub left : steps_left f.plan ≡ clearing loaded (arc_value f.run.tree)
-  pub new : steps_new (arc_value f.run.tree) f.plan ≡ storing (arc_value f.run.tree) (to_store (arc_value f.run.tree) f.run.report.files.items)
+  pub mends : MendsTo loaded (arc_value f.mended)
+  pub tree : arc_value f.run.tree ≡ to_build options (arc_value f.mended)
+  pub built : IsBuilt (to_build options (arc_value f.mended)) options f.run.report f.run.exit
+  pub left : steps_left f.plan ≡ clearing loaded (arc_value f.mended)
+  pub new : steps_new (arc_value f.mended) f.plan ≡ storing (arc_value f.mended) (to_store (arc_value f.mended) f.run.report.files.items)
 
 -- why nothing is foreseen: the directory can't be read, its book is refused, or it needs too many targets
 abbrev pub IsUnforeseen : (List ℕ → List (Option (List ℕ)) → Type 0) → (List ℕ → Option Node → Type 0) → (List ℕ → ErrorKind → Type 0) → Options → RunDirFault → Type 0

@@ -34,7 +34,7 @@ returns-in_err-carry_out-clause-fault g c =
     let before = g.D.WorkDir.done c.args.dir.now in let after = g.D.WorkDir.done c.carry_out.new.dir in
     let run = c.in_ok-run.field-0.run in let plan = c.in_ok-run.field-0.plan in
     let foreseen = c.in_ok-run.ensures.foreseen in
-    let tree = arc_value run.tree in
+    let tree = arc_value c.in_ok-run.field-0.mended in
     let read : c.deref.result.now ≡ tree = search rules in
     let fault = c.in_err-carry_out.field-0.0 in
     let planned = subst (λ t. IsPart told (steps_left plan) (steps_new t plan) before after fault) read c.in_err-carry_out.ensures.part in
@@ -46,7 +46,7 @@ returns-in_err-carry_out-clause-fault g c =
       loaded = foreseen.loaded;
       passed = run.passed;
       is_loaded = foreseen.is_loaded;
-      tree = tree;
+      mended = tree;
       mends = foreseen.mends;
       report = run.report;
       exit = run.exit;
@@ -64,7 +64,7 @@ returns-in_err-write_report-clause-fault g c =
     let before = g.D.WorkDir.done c.args.dir.now in let after = g.D.WorkDir.done c.carry_out.new.dir in
     let run = c.in_ok-run.field-0.run in let plan = c.in_ok-run.field-0.plan in
     let foreseen = c.in_ok-run.ensures.foreseen in
-    let tree = arc_value run.tree in
+    let tree = arc_value c.in_ok-run.field-0.mended in
     let read : c.deref.result.now ≡ tree = search rules in
     let done : after ≡ before ++ steps_of foreseen.loaded tree run.report =
     c.in_ok-carry_out.ensures.all ∙ ap (λ t. before ++ (steps_left plan ++ steps_new t plan)) read
@@ -76,7 +76,7 @@ returns-in_err-write_report-clause-fault g c =
         loaded = foreseen.loaded;
         passed = run.passed;
         is_loaded = foreseen.is_loaded;
-        tree = tree;
+        mended = tree;
         mends = foreseen.mends;
         report = run.report;
         exit = run.exit;
