@@ -6,8 +6,8 @@ use crate::above::Here;
 use crate::actions::{Action, BuildOptions, Cleaning, Dead, Listing, Packing, Query, Shadows};
 use crate::commands;
 use crate::commands::{
-    BUNDLE, CLEAN, DEAD, DIRECTORY, DRY_RUN, EXPLAIN, FORMAT, KEEP_GOING, OOD, PACK, SHADOWED,
-    STRICT, SYNC, TOP, UNPACK, WHICHDO, WITH_RULES,
+    BUNDLE, CLEAN, DEAD, DIRECTORY, DRY_RUN, EXPLAIN, FORMAT, KEEP_GOING, OOD, PACK, STRICT, SYNC,
+    TOP, UNPACK, WHICHDO, WITH_RULES,
 };
 use crate::line::Line;
 use crate::version::VERSION;
@@ -277,10 +277,8 @@ pub(crate) fn check(line: &Line<'_>) -> Result<(), Refusal> {
 pub(crate) fn action_of(alloc: Global, line: &Line<'_>, here: Here) -> Result<Action, Refusal> {
     let Here { top, below } = here;
     if line.has(PACK) {
-        return Ok(Action::Pack(Packing {
-            dir: top,
-            workers: workers(line),
-        }));
+        let workers = workers(line);
+        return Ok(Action::Pack(Packing { dir: top, workers }));
     }
     if line.has(UNPACK) {
         return Ok(Action::Unpack(top));
@@ -297,37 +295,46 @@ pub(crate) fn action_of(alloc: Global, line: &Line<'_>, here: Here) -> Result<Ac
     } else {
         Input::Directory(top)
     };
+    if commands::is_given(line) {
+        answer_of(alloc, line, input, &below)
+    } else {
+        Ok(Action::Build(build_of(alloc, line, input, &below)?))
+    }
+}
+
+/// What is asked of a tree in place of a build.
+fn answer_of(
+    alloc: Global,
+    line: &Line<'_>,
+    input: Input,
+    below: &Path,
+) -> Result<Action, Refusal> {
+    let workers = workers(line);
     if line.has(DEAD) {
         return Ok(Action::Dead(Dead {
-            build: tried_build_of(alloc, line, input, &below)?,
+            build: tried_build_of(alloc, line, input, below)?,
             cleaned: line.has(CLEAN),
             dry_run: line.has(DRY_RUN),
         }));
     }
     if let Some(word) = line.word(WHICHDO) {
-        return Ok(Action::Whichdo(target(alloc, &below, word)?, input));
+        return Ok(Action::Whichdo(target(alloc, below, word)?, input));
     }
     if line.has(OOD) {
         return Ok(Action::OutOfDate(Listing {
-            targets: named(alloc, line, &below)?,
+            targets: named(alloc, line, below)?,
             input,
-            workers: workers(line),
+            workers,
             format: format_of(line),
         }));
     }
-    if line.has(SHADOWED) {
-        return Ok(Action::Shadowed(Shadows {
-            input,
-            workers: workers(line),
-        }));
-    }
-    match commands::question_of(alloc, line, &below)? {
+    match commands::question_of(alloc, line, below)? {
         Some(question) => Ok(Action::Ask(Query {
             question,
             input,
-            workers: workers(line),
+            workers,
         })),
-        None => Ok(Action::Build(build_of(alloc, line, input, &below)?)),
+        None => Ok(Action::Shadowed(Shadows { input, workers })),
     }
 }
 
