@@ -15,6 +15,7 @@ use redo_path::Path;
 use redo_report::Report;
 use redo_short::summary_words;
 use redo_tree::Tree;
+use redo_which::BOOK;
 use std::alloc::{AllocError, Global};
 use std::path::Path as SystemPath;
 use std::rt::Runtime;
@@ -126,6 +127,20 @@ fn note_book_above<H: Runtime>(
     };
     after.voice.note(rt, words.as_bytes());
     Ok(())
+}
+
+/// Warns of a first book in a directory below one that has a book, unless notes say it anyway: once the book is there, no run
+/// can tell that it was made by mistake. Where there is no memory for the words, they are left out.
+pub(crate) fn warn_of_book_above<H: Runtime>(
+    rt: &H,
+    alloc: Global,
+    after: &After<'_>,
+    dir: &str,
+    tree: &Tree,
+) {
+    if after.voice.warnings && !after.voice.notes && tree.file_by_text(BOOK).is_none() {
+        let _said = note_book_above(rt, alloc, after, dir);
+    }
 }
 
 /// What a build wrote or would write, and how long it took.

@@ -3,7 +3,7 @@
 ghost use Rattle.std.specs.Prelude.{◌≡◌, false};
 
 use crate::actions::BuildOptions;
-use crate::after::{After, Built, say_after};
+use crate::after::{After, Built, say_after, warn_of_book_above};
 use crate::behind::{Behind, Watched};
 use crate::formats::print_report;
 use crate::found::{Found, find};
@@ -145,6 +145,9 @@ fn end_over_dir<H: Runtime + Threads + Sync>(
     note_passed(rt, run.passed);
     if let (true, Input::Directory(dir)) = (run.passed != 0, &after.build.input) {
         note_names(rt, alloc, after.voice, dir, &run.tree);
+    }
+    if let Input::Directory(dir) = &after.build.input {
+        warn_of_book_above(rt, alloc, after, dir, &run.tree);
     }
     let fine = say_found(rt, alloc, after, &built, &found)?;
     // Forgotten as above.

@@ -23,6 +23,8 @@ pub(crate) struct Voice {
     pub(crate) causes: bool,
     /// What is wrong with failed targets is told, and what is stale is noted.
     pub(crate) notes: bool,
+    /// What no later run could tell is told.
+    pub(crate) warnings: bool,
     /// It is told what a build came to: standard error is a terminal.
     pub(crate) summary: bool,
     /// The progress of a build is shown, in a line that is written over.
@@ -39,6 +41,7 @@ impl Voice {
         Voice {
             causes: verbose || told,
             notes: verbose || told,
+            warnings: !line.has(QUIET),
             summary: told,
             progress: told && screen.is_able,
             colour: screen.is_terminal && screen.is_able && screen.is_colourful,
