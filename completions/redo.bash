@@ -16,6 +16,7 @@ _redo_options=(
     "--format      Print as report, short, json, dot or html"
     "--with-rules  With --format dot: draw .do files, too"
     "--strict      Fail if a file is stale or soon will be"
+    "--take        Build sources with a rule at or below PATH anew"
     "--sync        Have each file on the disk before it gets its name"
     "--whichdo     Print where the rule of TARGET is looked for"
     "--targets     Print the built targets that stand as they were left"
@@ -120,6 +121,7 @@ _redo() {
             -C | -[knqv]*C) awaited=dir ;;
             -C?*) dir=${REPLY#-C} ;;
             --format) awaited=format ;;
+            --take) awaited=place ;;
             --top) top=yes ;;
             --whichdo | --deps) awaited=target alone=yes ;;
             --rdeps) awaited=path alone=yes ;;
@@ -136,6 +138,10 @@ _redo() {
     number) _redo_offer {1..64} ;;
     dir)
         mapfile -t COMPREPLY < <(compgen -d -- "$word")
+        compopt -o filenames 2>/dev/null
+        ;;
+    place)
+        mapfile -t COMPREPLY < <(cd -- "$dir" 2>/dev/null && compgen -f -- "$word")
         compopt -o filenames 2>/dev/null
         ;;
     format) _redo_offer report short json dot html ;;

@@ -189,7 +189,7 @@ def rule_of(path, left):
 
 
 # Why a file is noted: a source that a rule would make, a file that a target was built without, and one without a rule.
-UNBUILT = "{}: {}, so it counts as yours and isn't built; remove it to have {} make it"
+UNBUILT = "{}: {}, so it counts as yours and isn't built; remove it, or build with --take, to have {} make it"
 KNOWN = {True: "it isn't as the last run left it", False: "the book has no record of it"}
 YOURS = "; remove it, or it counts as yours from the next run on"
 UNMADE = "{}: it was built without a file now, but the file of an earlier run stays" + YOURS

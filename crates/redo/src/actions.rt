@@ -10,6 +10,8 @@ use redo_run::Options;
 #[derive(Drop)]
 pub(crate) struct BuildOptions {
     pub(crate) options: Options,
+    /// At or below which places sources that have a rule are taken back.
+    pub(crate) take: Vec<Path>,
     pub(crate) input: Input,
     pub(crate) storing: Storing,
     pub(crate) format: Format,

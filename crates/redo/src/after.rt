@@ -50,7 +50,7 @@ impl After<'_> {
 }
 
 /// So many notes of a kind are said at most.
-const MOST_NOTES: usize = 10;
+pub(crate) const MOST_NOTES: usize = 10;
 
 /// Says lines of text.
 fn say<H: Runtime>(rt: &H, text: &[u8]) {

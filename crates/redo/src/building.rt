@@ -11,10 +11,12 @@ use crate::options::{Format, Input, Storing};
 use crate::passing::note_names;
 use crate::progress::Progress;
 use crate::status::Fault;
+use crate::taking::{options_for, say_taken};
 use crate::voice::Voice;
 use crate::{buffered, flush, lock, note_passed};
 use redo_bundle::Plain;
 use redo_dir::{Lockable, SystemDir};
+use redo_path::Path;
 use redo_run::{BundleRun, Cause, DirRun, Exit, Host, Said, preview_dir, run_bundle, run_dir};
 use std::alloc::Global;
 use std::io::{BufWriter, ErrorKind, Write};
@@ -27,7 +29,15 @@ use std::{io, mem};
 #[derive(Drop)]
 pub(crate) enum Run {
     OverBundle(BundleRun),
-    OverDir(DirRun),
+    OverDir(DirBuild),
+}
+
+/// What a build of a directory came to.
+#[derive(Drop)]
+pub(crate) struct DirBuild {
+    pub(crate) run: DirRun,
+    /// The files that it took back.
+    pub(crate) taken: Vec<Path>,
 }
 
 /// Builds targets, and returns whether all went well.
@@ -56,7 +66,7 @@ where
     };
     match outcome? {
         Run::OverBundle(run) => end_over_bundle(host.rt, host.alloc, &after, run),
-        Run::OverDir(run) => end_over_dir(host.rt, host.alloc, &after, run),
+        Run::OverDir(built) => end_over_dir(host.rt, host.alloc, &after, built),
     }
 }
 
@@ -132,8 +142,9 @@ fn end_over_dir<H: Runtime + Threads + Sync>(
     rt: &H,
     alloc: Global,
     after: &After<'_>,
-    run: DirRun,
+    build: DirBuild,
 ) -> Result<bool, Fault> {
+    let DirBuild { run, taken } = build;
     let good = run.exit == Exit::Good;
     let built = Built {
         tree: &run.tree,
@@ -149,6 +160,8 @@ fn end_over_dir<H: Runtime + Threads + Sync>(
     if let Input::Directory(dir) = &after.build.input {
         warn_of_book_above(rt, alloc, after, dir, &run.tree);
     }
+    // Where there is no memory for its words, this is left out.
+    let _said = say_taken(rt, alloc, after, &taken, &run.report);
     let fine = say_found(rt, alloc, after, &built, &found)?;
     // Forgotten as above.
     mem::forget(run);
@@ -213,19 +226,24 @@ fn build_dir<H: Runtime + Threads + Wait + Sync, W: Write + Drop>(
     build: &BuildOptions,
     writer: &mut Behind<'_, Plain<BufWriter<W>>>,
     cause: &mut Cause,
-) -> Result<DirRun, Fault>
+) -> Result<DirBuild, Fault>
 where
     H::File: Send + Lockable,
     H::Dir: Send,
     requires { writer.old.out.broken ≡ false }
 {
-    let options = &build.options;
     if build.storing == Storing::Nothing {
         let dir = SystemDir::new(host.rt, host.alloc, dir);
-        return Ok(preview_dir(host, &dir, writer, options, cause)?);
+        let options = options_for(host, &dir, build, cause)?;
+        let run = preview_dir(host, &dir, writer, &options, cause)?;
+        let taken = options.taken;
+        return Ok(DirBuild { run, taken });
     }
     let lock = lock(host.rt, host.alloc, dir, cause)?;
     let synced = build.storing == Storing::Synced;
     let mut dir = SystemDir::locked(host.rt, host.alloc, dir, &lock, synced);
-    Ok(run_dir(host, &mut dir, writer, options, cause)?)
+    let options = options_for(host, &dir, build, cause)?;
+    let run = run_dir(host, &mut dir, writer, &options, cause)?;
+    let taken = options.taken;
+    Ok(DirBuild { run, taken })
 }

@@ -45,6 +45,8 @@ pub(crate) const EXPLAIN: Named = Named("explain", "--explain");
 
 pub(crate) const STRICT: Named = Named("strict", "--strict");
 
+pub(crate) const TAKE: Named = Named("take", "--take");
+
 pub(crate) const FORMAT: Named = Named("format", "--format");
 
 pub(crate) const WITH_RULES: Named = Named("with-rules", "--with-rules");
@@ -63,7 +65,7 @@ static COMMANDS: [Named; 11] = [
 ];
 
 /// Other options that exclude each other.
-static PAIRS: [(Named, Named); 11] = [
+static PAIRS: [(Named, Named); 12] = [
     (PACK, BUNDLE),
     (UNPACK, BUNDLE),
     (UNPACK, TOP),
@@ -72,13 +74,14 @@ static PAIRS: [(Named, Named); 11] = [
     (BUNDLE, TOP),
     (BUNDLE, SYNC),
     (BUNDLE, DRY_RUN),
+    (BUNDLE, TAKE),
     (DIRECTORY, TOP),
     (SYNC, DRY_RUN),
     (VERBOSE, QUIET),
 ];
 
 /// Options of builds. [`takes`] tells which command takes one of them, too.
-static OF_BUILDS: [Named; 6] = [SYNC, EXPLAIN, STRICT, FORMAT, WITH_RULES, DRY_RUN];
+static OF_BUILDS: [Named; 7] = [SYNC, EXPLAIN, STRICT, FORMAT, WITH_RULES, TAKE, DRY_RUN];
 
 /// Under which heading the help has the questions to the book.
 const BOOK: &str = "What the book knows, building nothing";

@@ -9,7 +9,8 @@ use std::rt::Runtime;
 /// What is said of a book that was changed otherwise.
 const OTHERWISE: &str =
     "the file .redo-book is not as a run leaves it; after a merge take one side's whole, as by \
-    git checkout --ours .redo-book; without it each file that was built counts as yours";
+    git checkout --ours .redo-book; without it each file that was built counts as yours until \
+    redo -k --take . builds it anew";
 
 /// Whether a text ends before this line does.
 fn ends_before(text: &[u8], line: u64) -> bool {
@@ -20,13 +21,15 @@ fn ends_before(text: &[u8], line: u64) -> bool {
 /// What is said of a book with this text, in which this line is the first at fault.
 fn words_for(text: &[u8], line: u64) -> &'static str {
     if text.is_empty() {
-        "the file .redo-book is empty: get it back, or remove it; then each file that was built counts as yours"
+        "the file .redo-book is empty: get it back, or remove it; then each file that was built counts as yours \
+            until redo -k --take . builds it anew"
     } else if text.contains_str(b"\r\n") {
         "the file .redo-book has Windows line ends: give it Unix line ends again, in git by the attribute -text"
     } else if text.contains_str(b"<<<<<<<") || text.contains_str(b">>>>>>>") {
         OTHERWISE
     } else if ends_before(text, line) {
-        "the file .redo-book is cut off: get it back, or remove it; then each file that was built counts as yours"
+        "the file .redo-book is cut off: get it back, or remove it; then each file that was built counts as yours \
+            until redo -k --take . builds it anew"
     } else {
         OTHERWISE
     }

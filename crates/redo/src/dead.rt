@@ -64,7 +64,8 @@ where
             let plan = plan_by(rt, alloc, build, run.exit, &run.tree, &report)?;
             Ok(Tried { plan, passed: 0 })
         }
-        Run::OverDir(run) => {
+        Run::OverDir(built) => {
+            let run = built.run;
             let plan = plan_by(rt, alloc, build, run.exit, &run.tree, &run.report)?;
             let passed = run.passed;
             Ok(Tried { plan, passed })

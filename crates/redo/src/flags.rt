@@ -39,13 +39,17 @@ pub(crate) fn shown(alloc: Global, words: &[String]) -> Result<String, AllocErro
     Ok(text)
 }
 
-/// Refuses what can't stand there: targets, what is done in place of a build, and options that don't go together.
+/// Refuses what can't stand there: targets, what is done in place of a build, what is taken back, since that is wanted once,
+/// and options that don't go together.
 pub(crate) fn check(flags: &ArgMatches<'_>) -> Result<(), Refusal> {
     if flags.contains_id("targets") {
         return Err(Refusal::TargetsBeside(NAME));
     }
     if let Some(command) = commands::first_command(flags)? {
         return Err(Refusal::Excluded(NAME, command));
+    }
+    if commands::TAKE.is_in(flags) {
+        return Err(Refusal::Excluded(NAME, commands::TAKE.1));
     }
     commands::check_pairs(flags)
 }

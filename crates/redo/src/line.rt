@@ -58,6 +58,11 @@ impl<'a> Line<'a> {
         self.own.get_strs("targets")
     }
 
+    /// The places at which files are taken back.
+    pub(crate) fn taken(&self) -> Option<&[&'a str]> {
+        self.own.get_strs("take")
+    }
+
     /// The words that have the number of jobs, the last of which counts.
     pub(crate) fn jobs(&self) -> Option<&ArgMatches<'a>> {
         if self.has_own(crate::commands::JOBS) {

@@ -28,6 +28,7 @@ mod progress;
 mod queries;
 mod status;
 mod summary;
+mod taking;
 mod unpacking;
 mod version;
 mod voice;
@@ -113,7 +114,11 @@ fn parse<'w>(rt: &HostRuntime, alloc: Global, words: &'w [String]) -> Result<Arg
     let command = options::command(alloc).map_err(|_| refuse(rt, Refusal::Memory))?;
     match command.try_get_matches_from(words) {
         Ok(matches) => Ok(matches),
-        Err(error) => Err(show_parse(rt, &error)),
+        Err(error) => {
+            let status = show_parse(rt, &error);
+            show_instead(rt, &error, words);
+            Err(status)
+        }
     }
 }
 
@@ -182,6 +187,14 @@ fn show_parse(rt: &HostRuntime, error: &Error) -> u8 {
         return status::of_fault(fault);
     }
     status::of_parse(error)
+}
+
+/// Says what this program has in place of an option that others have.
+fn show_instead(rt: &HostRuntime, error: &Error, words: &[String]) {
+    let is_unknown = error.kind() == ErrorKind::UnknownArgument;
+    if is_unknown && words.iter().any(|word| word.as_str() == "--force") {
+        let _shown = eprintln!(rt; "redo: to build files that count as yours, say --take PATH");
+    }
 }
 
 /// The words of the command line, after the program's name.

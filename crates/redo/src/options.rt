@@ -200,6 +200,14 @@ fn with_rules<'a>(alloc: Global) -> Arg<'a> {
         .help("With --format dot: draw .do files, too")
 }
 
+fn take<'a>(alloc: Global) -> Arg<'a> {
+    Arg::new(alloc, "take")
+        .long("take")
+        .value_name("PATH")
+        .action(ArgAction::Append)
+        .help("Build sources with a rule at or below PATH anew")
+}
+
 fn sync<'a>(alloc: Global) -> Arg<'a> {
     Arg::new(alloc, "sync")
         .long("sync")
@@ -256,6 +264,7 @@ pub(crate) fn command<'a>(alloc: Global) -> Result<Command<'a>, AllocError> {
         .arg(report_format(alloc))?
         .arg(with_rules(alloc))?
         .arg(strict(alloc))?
+        .arg(take(alloc))?
         .arg(sync(alloc))?
         .arg(whichdo(alloc))?
         .arg(verbose(alloc))?
@@ -360,7 +369,16 @@ fn format_of(line: &Line<'_>) -> Format {
     }
 }
 
-/// The first word that names no target, and why.
+/// The first of some words that names no path, and why.
+fn bad_word<'m>(
+    alloc: Global,
+    words: Option<&[&'m str]>,
+    below: &Path,
+) -> Option<(&'m str, PathFault)> {
+    words?.iter().find_map(|word| fault_of(alloc, below, word))
+}
+
+/// The first word that names no path, and why.
 pub(crate) fn bad_target<'m>(
     alloc: Global,
     line: &Line<'m>,
@@ -369,8 +387,10 @@ pub(crate) fn bad_target<'m>(
     if let Some(word) = commands::word_of(line) {
         return fault_of(alloc, below, word);
     }
-    let words = line.targets()?;
-    words.iter().find_map(|word| fault_of(alloc, below, word))
+    match bad_word(alloc, line.targets(), below) {
+        Some(bad) => Some(bad),
+        None => bad_word(alloc, line.taken(), below),
+    }
 }
 
 /// The word, and why it names no target, if it names none.
@@ -403,15 +423,20 @@ fn workers(line: &Line<'_>) -> usize
     }
 }
 
-/// The targets that are named.
-fn named(alloc: Global, line: &Line<'_>, below: &Path) -> Result<Vec<Path>, Refusal> {
+/// The paths that some words name.
+fn paths_of(alloc: Global, words: Option<&[&str]>, below: &Path) -> Result<Vec<Path>, Refusal> {
     let mut paths = Vec::new(alloc);
-    if let Some(words) = line.targets() {
+    if let Some(words) = words {
         for word in words {
             paths.push(target(alloc, below, word)?)?;
         }
     }
     Ok(paths)
+}
+
+/// The targets that are named.
+fn named(alloc: Global, line: &Line<'_>, below: &Path) -> Result<Vec<Path>, Refusal> {
+    paths_of(alloc, line.targets(), below)
 }
 
 /// The targets that are requested: `all`, where none is named.
@@ -476,9 +501,11 @@ fn build_of(
     Ok(BuildOptions {
         options: Options {
             targets,
+            taken: Vec::new(alloc),
             workers,
             limits,
         },
+        take: paths_of(alloc, line.taken(), below)?,
         input,
         storing: storing_of(line),
         format: format_of(line),

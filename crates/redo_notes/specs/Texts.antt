@@ -15,7 +15,7 @@ known_text note = note.path ++ known_words note.recorded
 -- what that means, and what to do
 abbrev pub help_text : Unbuilt → List ℕ
 help_text note =
-    codes ", so it counts as yours and isn't built; remove it to have " ++ note.do_file ++ codes " make it\n"
+    codes ", so it counts as yours and isn't built; remove it, or build with --take, to have " ++ note.do_file ++ codes " make it\n"
 
 -- the line of a source that has a rule
 abbrev pub unbuilt_line : Unbuilt → List ℕ

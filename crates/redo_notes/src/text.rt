@@ -8,7 +8,8 @@ use redo_path::Path;
 use std::alloc::{AllocError, Global};
 
 /// What is said of a source that has a rule, before the name of the rule's .do file.
-const UNBUILT: &[u8] = b", so it counts as yours and isn't built; remove it to have ";
+const UNBUILT: &[u8] =
+    b", so it counts as yours and isn't built; remove it, or build with --take, to have ";
 
 /// What is said of a target that was built without a file.
 const UNMADE: &[u8] = b": it was built without a file now, but the file of an earlier run stays; \
