@@ -53,7 +53,7 @@ impl After<'_> {
 pub(crate) const MOST_NOTES: usize = 10;
 
 /// Says lines of text.
-fn say<H: Runtime>(rt: &H, text: &[u8]) {
+pub(crate) fn say<H: Runtime>(rt: &H, text: &[u8]) {
     for line in text.lines() {
         let line = BStr::new(line);
         let _shown = eprintln!(rt; "{line}");

@@ -34,6 +34,7 @@ mod version;
 mod voice;
 
 use actions::{Action, Call};
+use after::say;
 use clap::error::ErrorKind;
 use clap::{ArgMatches, Error};
 use commands::VERBOSE;
@@ -41,11 +42,12 @@ use line::Line;
 use options::{Input, Refusal};
 use progress::Progress;
 use redo_bundle::Plain;
+use redo_diagnose::shown_lines;
 use redo_dir::{DirLock, LockFault, Lockable, SystemDir, lock_dir};
 use redo_path::Path;
 use redo_run::{Cause, Host, Said, whichdo_bundle, whichdo_dir};
 use status::Fault;
-use std::alloc::Global;
+use std::alloc::{AllocError, Global};
 use std::io::{BufWriter, IsTerminal, Write};
 use std::process::ExitCode;
 use std::rt::Runtime;
@@ -115,7 +117,7 @@ fn parse<'w>(rt: &HostRuntime, alloc: Global, words: &'w [String]) -> Result<Arg
     match command.try_get_matches_from(words) {
         Ok(matches) => Ok(matches),
         Err(error) => {
-            let status = show_parse(rt, &error);
+            let status = show_parse(rt, alloc, &error);
             show_instead(rt, &error, words);
             Err(status)
         }
@@ -138,7 +140,7 @@ fn parse_flags<'w>(
             if error.use_stderr() {
                 show_cause(rt, flags::shown(alloc, words).map(Some));
             }
-            return Err(show_parse(rt, &error));
+            return Err(show_parse(rt, alloc, &error));
         }
     };
     if let Err(refusal) = flags::check(&matches) {
@@ -175,11 +177,21 @@ fn voice_of(rt: &HostRuntime, line: &Line<'_>) -> Voice {
     Voice::of(line, screen)
 }
 
+/// The text of a refusal. What no terminal shows of the words that it repeats is written out.
+fn text_of_error(alloc: Global, error: &Error) -> Result<Vec<u8>, AllocError> {
+    let text = format!(in alloc; "{error}")?;
+    shown_lines(alloc, text.as_bytes())
+}
+
 /// Shows what the parse ended in: help or the version on standard output, a refusal on standard error. Returns the exit
 /// status.
-fn show_parse(rt: &HostRuntime, error: &Error) -> u8 {
+fn show_parse(rt: &HostRuntime, alloc: Global, error: &Error) -> u8 {
     if error.kind() == ErrorKind::OutOfMemory {
         return refuse(rt, Refusal::Memory);
+    }
+    if let (true, Ok(text)) = (error.use_stderr(), text_of_error(alloc, error)) {
+        say(rt, &text);
+        return status::of_parse(error);
     }
     if error.print(rt).is_err() && !error.use_stderr() {
         let fault = Fault::Output;
