@@ -7,10 +7,14 @@ use redo_path::{Path, resolve};
 use redo_tree::{Entry, Kind, Tree};
 use std::alloc::{AllocError, Global};
 use std::io;
+use std::path::Path as SystemPath;
 use std::rt::Runtime;
 
 /// So many names are said at most.
 const MOST: usize = 10;
+
+/// What to do about links.
+const LINKS: &[u8] = b"redo follows no link below the top: put the files themselves in its place";
 
 /// Why a name was passed over.
 #[derive(Clone, Copy)]
@@ -87,16 +91,41 @@ fn words(
     }
 }
 
-/// Says which names of a directory were passed over when this tree was read: the first of them, and how many more.
+/// Whether a link has this name in a directory below the top.
+fn is_link<H: Runtime>(
+    rt: &H,
+    alloc: Global,
+    top: &str,
+    above: &Path,
+    name: &Option<String>,
+) -> bool {
+    let Some(name) = name else {
+        return false;
+    };
+    let Ok(path) = shown(alloc, above, name) else {
+        return false;
+    };
+    let Ok(text) = str::from_utf8(&path) else {
+        return false;
+    };
+    match SystemPath::new(top).join(alloc, text) {
+        Ok(place) => place.as_path().is_symlink(rt),
+        Err(_) => false,
+    }
+}
+
+/// Says which names of a directory were passed over when this tree was read: the first of them, how many more, and what to do
+/// about links.
 fn say_names<H: Runtime>(
     rt: &H,
     alloc: Global,
     voice: Voice,
-    dir: &str,
+    top: &str,
     tree: &Tree,
 ) -> io::Result<()> {
-    let dir = SystemDir::new(rt, alloc, dir);
+    let dir = SystemDir::new(rt, alloc, top);
     let mut count = 0usize;
+    let mut has_link = false;
     for (above, entry) in tree.in_order(alloc)? {
         if !matches!(entry, Entry::Directory) {
             continue;
@@ -106,6 +135,7 @@ fn say_names<H: Runtime>(
                 continue;
             };
             count = count.saturating_add(1);
+            has_link = has_link || is_link(rt, alloc, top, above, &name);
             if count <= MOST {
                 voice.note(rt, words(alloc, above, &name, why)?.as_bytes());
             }
@@ -117,6 +147,9 @@ fn say_names<H: Runtime>(
             rt,
             format!(in alloc; "and {more} more were passed over")?.as_bytes(),
         );
+    }
+    if has_link {
+        voice.note(rt, LINKS);
     }
     Ok(())
 }

@@ -50,6 +50,10 @@ fn of_outside(alloc: Global, blamed: &Blamed<'_, '_, '_>) -> Result<Said, AllocE
             b"an empty word is no path",
             b"name a file",
         ),
+        Err(PathFault::Absolute) if blamed.value.starts_with(b"/dev/") => (
+            OUT,
+            b"leave it out: a script reads files of the tree, and writes to standard output or to `$3`",
+        ),
         Err(PathFault::Absolute) => (
             OUT,
             b"copy it into the tree, and write its path from the .do file's directory",
@@ -83,6 +87,11 @@ fn cannot_be_had(
     }
 }
 
+/// Whether a word is the file that the script makes.
+fn is_output(word: Option<&[u8]>) -> bool {
+    word == Some(b"$3".as_slice()) || word == Some(b"\"$3\"".as_slice())
+}
+
 /// What is said of a path that the script hasn't declared. `test -f` asks for one that may be missing.
 fn of_undeclared(
     alloc: Global,
@@ -92,6 +101,10 @@ fn of_undeclared(
     if is_option(blamed) {
         let help = b"commands take no options; leave it out";
         return Said::of(alloc, blamed.value, b" is read as a path", help);
+    }
+    if is_output(blamed.word) {
+        let help = b"`$3` is what the script makes: it can't be read";
+        return Said::of(alloc, blamed.value, b" isn't declared", help);
     }
     if blamed.command == b"test".as_slice() && cannot_be_had(alloc, tree, blamed)? {
         let help =
