@@ -6,4 +6,5 @@ pub mod JournalLemmas
 pub mod LevelLemmas
 pub mod ListingLemmas
 pub mod OwnLemmas
+pub mod ReadingLemmas
 pub mod TextLemmas

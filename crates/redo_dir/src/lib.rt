@@ -5,6 +5,7 @@
 //! own. The crate stands on `redo_tree` and `redo_path`, and on `thiserror`.
 //!
 //! - `work_dir`: what a run asks of the file system; `changes`: what it changed; `system`: a directory of the system;
+//! - `reading`: the bytes of a file of the system;
 //! - `loading`: a directory as a tree; `places`: which of its names a tree takes in; `looking`: what they lead to;
 //! - `storing`: files that are stored; `batches`: which of them together, and by how many threads; `drafts`: how they are
 //!   written and named;
@@ -22,6 +23,7 @@ mod lock;
 mod looking;
 mod own;
 mod places;
+mod reading;
 mod storing;
 mod system;
 mod unwritten;

@@ -8,13 +8,14 @@ ghost use Rattle.redo_dir.specs.Stored.{IsNamed, put_of, steps_of};
 use crate::changes::Change;
 use crate::lock::DirLock;
 use crate::own::Tag;
+use crate::reading::read_bytes;
 use crate::work_dir::{Drafted, Seen, WorkDir};
 use redo_path::Path;
 use redo_tree::Content;
 use redo_which::{BOOK, JOURNAL};
 use std::alloc::{AllocError, Global};
 use std::fs::{DirEntry, File, Metadata, OpenFile, Permissions};
-use std::io::{ErrorKind, Read, Write};
+use std::io::{ErrorKind, Write};
 use std::path::{Path as SystemPath, PathBuf};
 use std::rt::Files;
 use std::{fs, io};
@@ -65,18 +66,9 @@ impl Drafted for SystemDraft {
     ghost named = { λ d. string_bytes d.name };
 }
 
-/// The bytes of a file, which had `size` of them when it was looked at. What it has grown by since isn't read.
+/// The bytes of the file at a place, which had `size` of them when it was looked at. What it has grown by since isn't read.
 fn read_file<R: Files>(rt: &R, alloc: Global, place: &PathBuf, size: u64) -> io::Result<Vec<u8>> {
-    let mut file = fs::open(rt, place.as_path())?;
-    let mut bytes = Vec::with_capacity(alloc, size as usize)?;
-    if size == 0 {
-        // Some file systems know no sizes, and say 0.
-        file.read_to_end(&mut bytes)?;
-    } else {
-        // With a limit the system isn't asked once more whether the file has ended.
-        file.take(size).read_to_end(&mut bytes)?;
-    }
-    Ok(bytes)
+    read_bytes(alloc, fs::open(rt, place.as_path())?, size as usize)
 }
 
 /// What a place leads to, of which the system says this.

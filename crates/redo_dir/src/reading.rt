@@ -1,0 +1,60 @@
+//! The bytes of a file of the system.
+
+ghost use Rattle.std.specs.Prelude.{◌≡◌, ◌<◌, ◌≤◌, IfOk, IfSome, length, take};
+ghost use Rattle.std.specs.Io.KnownBytes.{Consumes};
+
+use std::alloc::Global;
+use std::io;
+use std::io::{ErrorKind, Read};
+
+/// Up to so many bytes are read by one call, into room that has just their size. It is filled with zeros first, which
+/// costs less than a second call for so few.
+const SMALL: usize = 1 << 14;
+
+/// Reads once. A call that a signal interrupts has read nothing.
+fn read_once<F: Read>(file: &mut F, room: &mut [u8]) -> io::Result<usize>
+    ensures fits { IfOk result (λ count. count ≤ length room.new) }
+    ensures bytes { IfOk result (λ count. Consumes (F.remaining file.old) (F.remaining file.new) (take count room.new)) }
+{
+    match file.read(room) {
+        Err(error) if error.kind() == ErrorKind::Interrupted => Ok(0),
+        outcome => outcome,
+    }
+}
+
+/// The first `size` bytes of a file, in room of their size. Most files give them by one call.
+fn read_small<F: Read + Drop>(alloc: Global, mut file: F, size: usize) -> io::Result<Vec<u8>>
+    ensures { IfOk result (λ bytes. IfSome (F.remaining file) (λ all. bytes.items ≡ take size all)) }
+{
+    let mut bytes = vec![in alloc; 0; size]?;
+    let count = read_once(&mut file, &mut bytes)?;
+    if count == size {
+        return Ok(bytes);
+    }
+    bytes.truncate(count);
+    file.take((size - count) as u64).read_to_end(&mut bytes)?;
+    Ok(bytes)
+}
+
+/// The bytes of a file that was opened and had `size` of them when it was looked at: the first `size` of those that it
+/// has now. Some file systems know no sizes, and say 0: then all are read.
+pub(crate) fn read_bytes<F: Read + Drop>(
+    alloc: Global,
+    mut file: F,
+    size: usize,
+) -> io::Result<Vec<u8>>
+    ensures first { 0 < size → IfOk result (λ bytes. IfSome (F.remaining file) (λ all. bytes.items ≡ take size all)) }
+    ensures whole { size ≡ 0 → IfOk result (λ bytes. IfSome (F.remaining file) (λ all. bytes.items ≡ all)) }
+{
+    if 0 < size && size <= SMALL {
+        return read_small(alloc, file, size);
+    }
+    let mut bytes = Vec::with_capacity(alloc, size)?;
+    if size == 0 {
+        file.read_to_end(&mut bytes)?;
+    } else {
+        // With a limit the system isn't asked once more whether the file has ended.
+        file.take(size as u64).read_to_end(&mut bytes)?;
+    }
+    Ok(bytes)
+}
