@@ -1,9 +1,10 @@
--- The first bytes of a file, by one read or by two.
-use Rattle.std.proofs.Common.{◌≡◌, ℕ, ◌≤◌, ◌+◌, ◌-◌, List, ◌++◌, Option, Some, None, length, take, arith, sym, ap, ◌∙◌, length-take}
+-- The first bytes of a file, by one read or by two; and the place of a path.
+use Rattle.std.proofs.Common.{◌≡◌, ℕ, ◌≤◌, ◌+◌, ◌-◌, true, false, if◌then◌else◌, List, [], ◌++◌, Option, Some, None, length, take, arith, refl, sym, ap, ◌∙◌, length-take}
 use Rattle.std.proofs.lemmas.List.{take-append-le, take_all}
 use Rattle.std.proofs.Math.Seq.{take-append-add}
 use Rattle.std.specs.Io.KnownBytes.{Consumes}
-use Rattle.std.specs.Prelude.{IfSome, option_map}
+use Rattle.std.specs.Path.{path_join, slash, with_separator}
+use Rattle.std.specs.Prelude.{◌==◌, IfSome, option_map, slice_index}
 
 -- room that was filled, as it stands in front of others
 kept : (n : ℕ) (room tail : List ℕ) → length room ≡ n → take n (room ++ tail) ≡ room
@@ -36,3 +37,9 @@ rest-read (Some all) (Some rest) size count n room tail before bytes whole fits 
     let long : length front ≡ count = omega (arith, length-take count room) in
     read ∙ ap (λ b. b ++ take (size - count) rest) (cut ∙ ap (take count) (kept n room tail (omega arith)))
     ∙ behind-front size count front rest long fits ∙ ap (take size) (sym took)
+
+-- a path that is pushed on nothing
+pub joined-to-nothing : (path : List ℕ) → path_join [] path ≡ path
+unfolding path_join
+joined-to-nothing path =
+    elim (slice_index path 0 == slash) as (λ absolute. (if absolute then path else with_separator [] ++ path) ≡ path) [ true ↦ refl | false ↦ refl ]

@@ -1,6 +1,6 @@
 //! A directory of the system, as a run works in it.
 
-ghost use Rattle.std.specs.Path.{path_buf_bytes, path_with_file_name};
+ghost use Rattle.std.specs.Path.{path_buf_bytes, path_join, path_with_file_name};
 ghost use Rattle.std.specs.Prelude.{◌≡◌, ◌++◌, ◌∷◌, [], IfOk, OnErr, OnOk, string_bytes};
 ghost use Rattle.redo_dir.specs.Loaded.{Shows};
 ghost use Rattle.redo_dir.specs.Stored.{IsNamed, put_of, steps_of};
@@ -271,12 +271,17 @@ impl<'a, R: Files> SystemDir<'a, R> {
         Ok(())
     }
 
-    /// Where the system has a path of the tree.
-    fn place(&self, alloc: Global, path: &Path) -> io::Result<PathBuf> {
+    /// Where the system has a path of the tree. The place is made in one block.
+    fn place(&self, alloc: Global, path: &Path) -> io::Result<PathBuf>
+        ensures { IfOk result (λ place. path_buf_bytes place ≡ path_join self.now.top.now path.now) }
+    {
         let Ok(text) = str::from_utf8(path.text()) else {
             return Err(io::Error::from(ErrorKind::InvalidFilename));
         };
-        Ok(SystemPath::new(self.top).join(alloc, text)?)
+        let mut place = PathBuf::with_capacity(alloc, self.top.len() + text.len() + 2)?;
+        place.push(self.top)?;
+        place.push(text)?;
+        Ok(place)
     }
 
     /// Gives a draft its name, and notes that it has it.
