@@ -4,7 +4,7 @@
 //! stands on `sha2` for the digests and on `hex` for what their digits are.
 //!
 //! - `digest`: digests;
-//! - `four`: digests of four short contents, made side by side in the `lanes` of vectors, and [`Fours`], which finds them;
+//! - `four`: digests of four contents, made side by side in the `lanes` of vectors, and [`Fours`], which finds them;
 //! - [`laws`]: each content has a digest; a digest is spelled by its 64 digits and by nothing else.
 #![tactic(auto)]
 

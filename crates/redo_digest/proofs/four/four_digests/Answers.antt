@@ -1,15 +1,15 @@
-use Rattle.std.proofs.Common.{◌≡◌, ℕ, List, ◌+◌, ◌-◌, ◌*◌, ◌∙◌, ap₂, arith, drop, length, sym, take}
-use Rattle.sha2.specs.Sha256.{compress, hash_after, initial_hash_256, padded_message}
-use Rattle.sha2.proofs.Absorbing256.{hash_after_next}
+use Rattle.std.proofs.Common.{◌≡◌, ℕ, [], ◌∷◌, ◌+◌, ◌<◌, ◌∙◌, ap, arith, length, slice_index_or}
+use Rattle.std.specs.Prelude.{◌==◌, if◌then◌else◌, slice_index}
+use Rattle.sha2.specs.Sha256.{digest_bytes}
 use Rattle.redo_digest.specs.Digest.{blocks_for, one_of}
+use Rattle.redo_digest.specs.inside.Blocks.{block_of}
 use Rattle.redo_digest.specs.inside.Lanes.{eight}
 use Rattle.redo_digest.proofs.LaneLemmas.{below_four}
-use Rattle.redo_digest.proofs.PaddingLemmas.{block_of_front, digest_after}
+use Rattle.redo_digest.proofs.PaddingLemmas.{lane_first, lane_next}
 use Rattle.redo_digest.proofs.four.four_digests.Goals as goal
 
 pub each-init : goal.each-init
-unfolding hash_after
-each-init c j lt = c.initial.ensures j lt
+each-init c j lt = lane_first _ _ _ (c.initial.ensures j lt)
 
 pub each-preserved : goal.each-preserved
 each-preserved c j lt =
@@ -18,26 +18,29 @@ each-preserved c j lt =
     let b = c.args.b.now in
     let third = c.args.c.now in
     let d = c.args.d.now in
-    let part = λ (p : List ℕ). take (64 * k + 64 - 64 * k) (drop (64 * k) p) in
-    let blocks = below_four (λ j. one_of (part c.pad.new.bytes) (part c.pad-2.new.bytes) (part c.pad-3.new.bytes) (part c.pad-4.new.bytes) j ≡ take 64 (drop (k * 64) (padded_message (one_of a b third d j))))
-    (block_of_front c.pad.new.bytes (padded_message a) k (64 * blocks_for (length a)) (64 * k + 64 - 64 * k) c.pad.ensures (omega arith) (omega arith))
-    (block_of_front c.pad-2.new.bytes (padded_message b) k (64 * blocks_for (length b)) (64 * k + 64 - 64 * k) c.pad-2.ensures (omega arith) (omega arith))
-    (block_of_front c.pad-3.new.bytes (padded_message third) k (64 * blocks_for (length third)) (64 * k + 64 - 64 * k) c.pad-3.ensures (omega arith) (omega arith))
-    (block_of_front c.pad-4.new.bytes (padded_message d) k (64 * blocks_for (length d)) (64 * k + 64 - 64 * k) c.pad-4.ensures (omega arith) (omega arith)) in
-    c.compress.ensures j lt ∙ ap₂ compress (c.each.invariant j lt) (blocks j lt)
-    ∙ sym (hash_after_next initial_hash_256 (padded_message (one_of a b third d j)) k)
+    let m = one_of a b third d j in
+    let counts = c.blocks_of.result ∷ c.blocks_of-2.result ∷ c.blocks_of-3.result ∷ c.blocks_of-4.result ∷ [] in
+    let counted : slice_index counts j ≡ blocks_for (length m) =
+    below_four (λ j. slice_index counts j ≡ blocks_for (length (one_of a b third d j)))
+    c.blocks_of.ensures c.blocks_of-2.ensures c.blocks_of-3.ensures c.blocks_of-4.ensures j lt in
+    let blocks = one_of c.block_at.result.now c.block_at-in-each.result.now c.block_at-in-each-2.result.now c.block_at-in-each-3.result.now in
+    let made = slice_index_or c.each.made j [] in
+    let next = eight j c.compress.new.state in
+    lane_next m (eight j c.each.state) next made (slice_index_or c.keep_ended.new.made j []) (blocks j) k (c.each.invariant j lt)
+    (below_four (λ j. k < blocks_for (length (one_of a b third d j)) → blocks j ≡ block_of (one_of a b third d j) k)
+    c.block_at.ensures.block c.block_at-in-each.ensures.block c.block_at-in-each-2.ensures.block c.block_at-in-each-3.ensures.block j lt)
+    (c.compress.ensures j lt)
+    (c.keep_ended.ensures j lt ∙ ap (λ count. if count == k + 1 then digest_bytes next 8 else made) counted)
 
 pub returns : goal.returns
-returns c =
+returns c j lt =
     let a = c.args.a.now in
     let b = c.args.b.now in
     let third = c.args.c.now in
     let d = c.args.d.now in
-    let k = c.each.block in
-    let held = c.each.invariant in
-    let state = c.each.state in
-    below_four _
-    (c.bytes_in.ensures ∙ digest_after a (eight 0 state) k (omega arith) (held 0 (omega arith)))
-    (c.bytes_in-2.ensures ∙ digest_after b (eight 1 state) k (omega arith) (held 1 (omega arith)))
-    (c.bytes_in-3.ensures ∙ digest_after third (eight 2 state) k (omega arith) (held 2 (omega arith)))
-    (c.bytes_in-4.ensures ∙ digest_after d (eight 3 state) k (omega arith) (held 3 (omega arith)))
+    let counts = c.blocks_of.result ∷ c.blocks_of-2.result ∷ c.blocks_of-3.result ∷ c.blocks_of-4.result ∷ [] in
+    let counted : slice_index counts j ≡ blocks_for (length (one_of a b third d j)) =
+    below_four (λ j. slice_index counts j ≡ blocks_for (length (one_of a b third d j)))
+    c.blocks_of.ensures c.blocks_of-2.ensures c.blocks_of-3.ensures c.blocks_of-4.ensures j lt in
+    let most = c.most_of-block-end.ensures j lt in
+    (c.each.invariant j lt).ended (omega (arith, counted, most))
