@@ -1,6 +1,6 @@
 //! Making the digests of named files and keeping them.
 
-ghost use Rattle.std.specs.Prelude.{◌≡◌, ◌<◌, ℕ, List, Some, length, slice_get, slice_index_or};
+ghost use Rattle.std.specs.Prelude.{◌≡◌, ◌<◌, ℕ, List, Some, drop, length, slice_get, slice_index_or};
 ghost use Rattle.sha2.specs.Sha256.{sha256};
 ghost use Rattle.redo_tree.specs.declared.entries.Entry.TheVariants.{File};
 
@@ -9,9 +9,9 @@ use redo_digest::{Digest, Fours, Next};
 use std::thread;
 use std::thread::Threads;
 
-/// How many bytes to digest are worth a thread: some milliseconds of work, as beside busy processes a thread may get its
+/// How many bytes to digest are worth a thread: a millisecond of work, as beside busy processes a thread may get its
 /// turn that late.
-const BYTES_FOR_ONE: usize = 1 << 18;
+const BYTES_FOR_ONE: usize = 1 << 19;
 
 /// Whether the entry with this number is named. Numbers past the end aren't.
 pub(crate) fn is_named(named: &[bool], number: usize) -> bool {
@@ -99,8 +99,8 @@ pub(crate) fn next_after(fours: &mut Fours, entry: &Entry, number: usize) -> Nex
     }
 }
 
-/// Makes the digests of the named files that are short, four at a time, and keeps them.
-fn keep_short_digests(entries: &mut [Entry], named: &[bool])
+/// Makes the digests of named files, four of about one length at a time, and keeps them. Some long files are left.
+fn keep_fours(entries: &mut [Entry], named: &[bool])
     ensures { entries.new ≡ entries.old }
 {
     let mut fours = Fours::new();
@@ -121,7 +121,7 @@ fn keep_short_digests(entries: &mut [Entry], named: &[bool])
 pub(crate) fn keep_digests(entries: &mut [Entry], named: &[bool])
     ensures { entries.new ≡ entries.old }
 {
-    keep_short_digests(entries, named);
+    keep_fours(entries, named);
     'entries: for number in 0..entries.len() {
         if is_named(named, number) {
             keep_digest(&mut entries[number]);
@@ -150,26 +150,33 @@ pub(crate) fn threads_for(entries: &[Entry], named: &[bool], most: usize) -> usi
     (bytes / BYTES_FOR_ONE).min(most).max(1)
 }
 
+/// The marks from this number on.
+fn marks_from(named: &[bool], number: usize) -> &[bool]
+    ensures { result.now ≡ drop number named.now }
+{
+    if number < named.len() {
+        &named[number..]
+    } else {
+        &[]
+    }
+}
+
 /// Makes and keeps the digests of the named files on `threads` threads, each over consecutive entries.
 fn keep_digests_in<R: Threads + Sync>(rt: &R, threads: usize, entries: &mut [Entry], named: &[bool])
     requires { 0 < threads }
     ensures { (n : ℕ) (e : Entry) → n < length entries.old →
         slice_index_or entries.new n e ≡ slice_index_or entries.old n e }
 {
-    thread::for_each_mut(
+    let size = entries.len().div_ceil(threads).max(1);
+    thread::for_each_chunk_mut(
         rt,
         entries,
-        threads,
-        &|number, entry| {
-            if is_named(named, number) {
-                keep_digest(entry);
-            }
-        },
+        size,
+        &|start, part: &mut [Entry]| keep_digests(part, marks_from(named, start)),
     );
 }
 
-/// The same on at most `threads` threads, as many as the bytes to read are worth. The caller's thread digests what is
-/// short, four at a time, so that it doesn't wait for a thread that comes to its part late, beside busy processes.
+/// The same on at most `threads` threads, as many as the bytes to read are worth.
 pub(crate) fn keep_digests_by<R: Threads + Sync>(
     rt: &R,
     threads: usize,
@@ -178,7 +185,6 @@ pub(crate) fn keep_digests_by<R: Threads + Sync>(
 )
     ensures { entries.new ≡ entries.old }
 {
-    keep_short_digests(entries, named);
     let threads = threads_for(entries, named, threads);
     keep_digests_in(rt, threads, entries, named);
 }

@@ -50,11 +50,12 @@ impl<'a> FileDigests<'a> {
         Ok(FileDigests { entries, made })
     }
 
-    /// Makes the digests of the named files that are short, those of the numbers at which `named` is true, four at a time.
+    /// Makes digests of the named files, those of the numbers at which `named` is true, four of about one length at a
+    /// time. Some long files are left.
     pub fn prepare(&mut self, named: &[bool])
         ensures { self.new ≡ self.old }
     {
-        make_short(self.entries, &mut self.made, named);
+        make_fours(self.entries, &mut self.made, named);
     }
 
     /// The state of a path: the digest of the file there, or `None` if there is no file.
@@ -135,8 +136,8 @@ fn make_next(entries: &PathMap<Entry>, made: &mut [Option<Digest>], next: Next)
     }
 }
 
-/// Makes the digests of the named files that are short.
-fn make_short(entries: &PathMap<Entry>, made: &mut [Option<Digest>], named: &[bool])
+/// Makes digests of the named files, four of about one length at a time.
+fn make_fours(entries: &PathMap<Entry>, made: &mut [Option<Digest>], named: &[bool])
     requires { AreMade entries.now made.old }
     ensures { AreMade entries.now made.new }
 {

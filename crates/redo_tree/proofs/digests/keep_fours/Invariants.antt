@@ -1,5 +1,5 @@
 use Rattle.std.proofs.Common.{◌≡◌}
-use Rattle.redo_tree.proofs.digests.keep_short_digests.Given as goal
+use Rattle.redo_tree.proofs.digests.keep_fours.Given as goal
 
 -- what is contained so far is what was contained
 abbrev pub invariant-entries : goal.invariant-entries
