@@ -10,7 +10,7 @@ use Rattle.redo_script.specs.Faults.{◌>>=◌, Fails}
 use Rattle.redo_script.specs.Syntax.{Script, Symbol, bare, quoted, named_bare, named_quoted}
 use Rattle.redo_script.specs.Tokens.{Token, word, semicolon, newline, redirect, ends_word, is_escaped}
 use Rattle.redo_script.specs.Bytes.{is_plain, is_blank, begins_name, continues_name}
-use Rattle.redo_script.specs.declared.parser.Statements.{Statements}
+use Rattle.redo_script.specs.declared.statements.Statements.{Statements}
 use Rattle.redo_script.specs.inside.Passes.{IsOn, Follows}
 use Rattle.redo_script.specs.inside.Lexer.{with_no_tokens}
 use Rattle.redo_script.specs.Parsing.{statements_of}

@@ -19,6 +19,7 @@ pub mod OnlyTokenLemmas
 pub mod OpenLemmas
 pub mod OpenQuoteLemmas
 pub mod QuotedRunLemmas
+pub mod ReadOnceLemmas
 pub mod ReadTextLemmas
 pub mod ReadTokenLemmas
 pub mod RefusedLemmas

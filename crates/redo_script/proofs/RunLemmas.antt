@@ -1,5 +1,5 @@
 -- What runs of bytes do to reading.
-use Rattle.std.proofs.Common.{◌≡◌, ℕ, ◌≢◌, zero, suc, ◌<◌, ◌≤◌, ◌+◌, ◌-◌, Result, Ok, ap₂, drop, add-one, Bool, true}
+use Rattle.std.proofs.Common.{◌≡◌, ℕ, ◌≢◌, zero, suc, ◌<◌, ◌≤◌, ◌+◌, ◌-◌, Result, Ok, drop, add-one, Bool, true}
 use Rattle.std.proofs.Common.{false, ◌&&◌, ◌==◌, List, [], ◌∷◌, ◌++◌, map, take, length, get_or, refl, sym, ap, ◌∙◌}
 use Rattle.std.proofs.Common.{append_assoc, arith, inl, inr}
 use Rattle.std.proofs.Math.Seq.{drop-cons}
@@ -12,10 +12,10 @@ use Rattle.redo_script.specs.declared.ast.Part.{Part}
 use Rattle.redo_script.specs.View.{symbols_of}
 use Rattle.redo_script.specs.Syntax.{byte}
 use Rattle.redo_script.specs.Tokens.{Token, word, digits_then, begins_word, AtWordEnd}
-use Rattle.redo_script.specs.Reading.{Reader, read_on, at_end, with_token, with_word, with_begun_word}
+use Rattle.redo_script.specs.Reading.{Reader, read_on, at_end, with_word}
 use Rattle.redo_script.specs.inside.Runs.{all_plain, all_digits, ends_plainly}
 use Rattle.redo_script.proofs.BitLemmas.{and_true, and_false, injected}
-use Rattle.redo_script.proofs.OneByteLemmas.{at, word_begun, byte_more, gap_blank, gap_comment, gap_word, comment_on}
+use Rattle.redo_script.proofs.OneByteLemmas.{at, word_begun, byte_more, gap_blank, gap_comment, gap_word, gap_end, comment_on, comment_end, comment_gap}
 use Rattle.redo_script.proofs.OneByteLemmas.{word_plain, word_ends}
 
 -- plain bytes more
@@ -73,7 +73,7 @@ begins : (b : ℕ) → is_plain b ≡ true → begins_word b ≡ true
 begins b h = rw h refl
 
 -- a word of plain bytes alone, behind which another word can't go on
-word_passed : (r : Reader) (run rest : List ℕ) → r.mode ≡ modes.Gap → (length run == 0) ≡ false → all_plain run ≡ true → ends_plainly rest ≡ true → read_on (record r { mode = modes.Gap; word_line = r.line; is_plain = true; is_number = all_digits run; word = []; tokens = r.tokens ++ word r.line true (map byte run) ∷ [] }) rest ≡ read_on r (run ++ rest)
+pub word_passed : (r : Reader) (run rest : List ℕ) → r.mode ≡ modes.Gap → (length run == 0) ≡ false → all_plain run ≡ true → ends_plainly rest ≡ true → read_on (record r { mode = modes.Gap; word_line = r.line; is_plain = true; is_number = all_digits run; word = []; tokens = r.tokens ++ word r.line true (map byte run) ∷ [] }) rest ≡ read_on r (run ++ rest)
 word_passed r [] rest e some h n = absurd (cc some)
 word_passed r (b ∷ bs) rest e some h n =
     let same = in_mode r modes.Gap e in
@@ -111,17 +111,14 @@ bytes_taken r text bytes rest n parts literal literal' is_number m w t f plain l
     let more : symbols_of parts ++ map byte literal' ≡ r.word ++ map byte bytes = rw (l, w, map-append byte literal bytes) (sym (append_assoc (symbols_of parts) (map byte literal) (map byte bytes))) in
     rw (more, d) (bytes_passed r bytes rest m all ∙ ap (λ bs. read_on r bs) (sym t))
 
--- a word of plain bytes alone, as the steps of taking it leave the reader
-pub word_taken : (r begun new : Reader) (text bytes rest : List ℕ) (n : ℕ) (is_number : Bool) → r.mode ≡ modes.Gap → begun ≡ with_begun_word r → is_number ≡ all_digits bytes → (let made : Result Reader ScriptFault = Ok (with_token (record begun { is_number = is_number }) (word begun.word_line true (map byte bytes))) in made ≡ Ok new) → text ≡ bytes ++ rest → bytes ≡ take n text → all_plain (take n text) ≡ true → (length bytes == 0) ≡ false → ends_plainly rest ≡ true → read_on new rest ≡ read_on r text
-word_taken r begun new text bytes rest n is_number m b d made t f plain some stop =
-    let all : all_plain bytes ≡ true = ap all_plain f ∙ plain in
-    let left : with_token (record begun { is_number = is_number }) (word begun.word_line true (map byte bytes)) ≡ new = injected made in
-    let same : with_token (record (with_begun_word r) { is_number = all_digits bytes }) (word r.line true (map byte bytes)) ≡ new = ap₂ (λ q k. with_token (record q { is_number = k }) (word q.word_line true (map byte bytes))) (sym b) (sym d) ∙ left in
-    ap (λ q. read_on q rest) (sym same) ∙ (word_passed r bytes rest m some all stop ∙ ap (λ bs. read_on r bs) (sym t))
+-- behind a comment, reading goes on as between words
+pub comment_over : (left : List ℕ) → (1 ≤ length left → get_or left 0 0 ≡ 10) → (r : Reader) → r.mode ≡ modes.Gap → read_on r left ≡ read_on (record r { mode = modes.Comment }) left
+comment_over [] h r m = ap (λ q. read_on q []) (sym (in_mode r modes.Gap m)) ∙ (gap_end r.line r ∙ sym (comment_end r.line r))
+comment_over (b ∷ bs) h r m = ap (λ q. read_on q (b ∷ bs)) (sym (in_mode r modes.Gap m)) ∙ sym (comment_gap r.line r b bs (h (omega arith)))
 
--- a comment begins
-pub comment_begun : (r : Reader) (text rest : List ℕ) → 1 ≤ length text → get_or text 0 0 ≡ 35 → r.mode ≡ modes.Gap → read_on (at modes.Comment r.line r) rest ≡ read_on (at modes.Comment r.line r) (take (length text - 1) (drop 1 text)) → read_on (at modes.Comment r.line r) rest ≡ read_on r text
-comment_begun r text rest some is e h =
+-- a comment, up to the end of its line
+pub comment_once : (r : Reader) (text rest : List ℕ) → 1 ≤ length text → get_or text 0 0 ≡ 35 → r.mode ≡ modes.Gap → read_on r rest ≡ read_on (record r { mode = modes.Comment }) (take (length text - 1) (drop 1 text)) → read_on r rest ≡ read_on r text
+comment_once r text rest some is e h =
     let behind = take (length text - 1) (drop 1 text) in
     h ∙ (sym (gap_comment r.line r (get_or text 0 0) behind is) ∙ (ap (λ q. read_on q (get_or text 0 0 ∷ behind)) (in_mode r modes.Gap e) ∙ ap (λ bs. read_on r bs) (head_on text some)))
 

@@ -1,11 +1,12 @@
 //! From bytes to tokens, byte by byte.
 
+mod handing;
 pub mod marks;
 mod runs;
 pub mod stops;
 
-ghost use Rattle.std.specs.Prelude.{◌≡◌, ◌+◌, ◌<◌, ◌≤◌, ◌^◌, map, Ok, OnOk, IfOk, IfErr, []};
-ghost use Rattle.redo_script.specs.Faults.{Gives, fault_at, no_memory};
+ghost use Rattle.std.specs.Prelude.{◌≡◌, ◌+◌, ◌<◌, ◌≤◌, ◌^◌, map, Ok, OnOk, []};
+ghost use Rattle.redo_script.specs.Faults.{Gives, fault_at};
 ghost use Rattle.redo_script.specs.inside.Calls.{Leaves, with_symbols};
 ghost use Rattle.redo_script.specs.Syntax.{byte as byte_symbol, named_bare, named_quoted};
 ghost use Rattle.redo_script.specs.View.{symbols_of_part};
@@ -17,7 +18,7 @@ ghost use Rattle.redo_script.specs.Reading.{with_word, with_token, with_symbol, 
 ghost use Rattle.redo_script.specs.Reading.{with_begun_word};
 ghost use Rattle.redo_script.specs.declared.fault.Reason.TheVariants as reasons;
 ghost use Rattle.redo_script.specs.declared.lexer.Mode.TheVariants as modes;
-ghost use Rattle.redo_script.specs.inside.Lexer.{token_of, reader_of, with_no_tokens};
+ghost use Rattle.redo_script.specs.inside.Lexer.{token_of, reader_of};
 
 use crate::ast::{Parameter, Part};
 use crate::bytes::{is_name_byte, is_name_start, is_plain_byte};
@@ -54,12 +55,6 @@ pub enum Mode {
     /// After a backslash in double quotes.
     Escape,
 }
-
-/// How many tokens are read before they are taken.
-const MANY: usize = 15;
-
-/// How many tokens there is room for at first: those, and what most lines add before they are taken.
-const ROOM: usize = 21;
 
 /// Reads a text byte by byte. Its tokens are taken from time to time.
 #[derive(Drop)]
@@ -424,32 +419,6 @@ impl<'a> Lexer<'a> {
             name: Vec::new(alloc),
             tokens: Vec::new(alloc),
         }
-    }
-
-    /// Makes room for the tokens of a short text.
-    pub fn make_room(&mut self) -> Result<(), ScriptFault>
-        ensures same { OnOk result (reader_of self.new ≡ reader_of self.old) }
-        ensures line { self.new.line ≡ self.old.line }
-        ensures memory { IfErr result (λ fault. fault ≡ no_memory) }
-    {
-        self.tokens.reserve(ROOM)?;
-        Ok(())
-    }
-
-    /// Whether the tokens should be taken now.
-    pub fn has_many(&self) -> bool {
-        self.tokens.len() >= MANY
-    }
-
-    /// The tokens read since the last call.
-    pub fn take_tokens(&mut self) -> Result<Vec<Token<'a>>, ScriptFault>
-        ensures tokens { IfOk result (λ tokens. map token_of tokens.items ≡ (reader_of self.old).tokens) }
-        ensures taken { OnOk result (reader_of self.new ≡ with_no_tokens (reader_of self.old)) }
-        ensures line { self.new.line ≡ self.old.line }
-        ensures memory { IfErr result (λ fault. fault ≡ no_memory) }
-    {
-        let none = Vec::with_capacity(self.alloc, ROOM)?;
-        Ok(mem::replace(&mut self.tokens, none))
     }
 
     /// Ends the text, and takes the tokens read since the last call of `take_tokens`.

@@ -6,9 +6,9 @@
 //!
 //! - `ast`: the syntax tree.
 //! - `fault`: what can be wrong with a text.
-//! - `reader`: the passes over a text, and `parse`.
+//! - `reader`: the passes over a text, and `parse`; `reader::passes`: the last two of them, side by side.
 //! - `bytes`, `spans`, `token`, `lexer`: from bytes to tokens; `lexer::runs`: many bytes at once.
-//! - `item`, `name`, `number`, `form`, `partial`, `open`, `parser`: from tokens to statements.
+//! - `item`, `name`, `number`, `form`, `partial`, `open`, `parser`, `statements`: from tokens to statements.
 //! - `places`, `lexer::stops`, `lexer::marks`, `parser::reading`: which bytes of a text are to blame for its fault, and
 //!   which are the words of a statement. They read a text once more, byte by byte.
 //! - `laws`: theorems that relate the grammar to the functions that find a text's fault. Each is a function that does
@@ -30,6 +30,7 @@ mod partial;
 mod places;
 mod reader;
 mod spans;
+mod statements;
 mod token;
 
 pub use ast::{Command, Condition, Parameter, Part, Redirection, Script, Stmt, Test, Word, Writer};

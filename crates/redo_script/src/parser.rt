@@ -1,29 +1,31 @@
 //! From tokens to statements.
 
+mod lent;
+mod nesting;
 pub mod reading;
 
-ghost use Rattle.std.specs.Prelude.{◌≡◌, Ok, OnOk, IfErr, [], ◌∷◌, ◌++◌, List, Result, map};
+ghost use Rattle.std.specs.Prelude.{◌≡◌, Ok, ◌++◌, List, Result, map};
 ghost use Rattle.redo_script.specs.declared.fault.ScriptFault.{ScriptFault};
 ghost use Rattle.redo_script.specs.Syntax.{Script as ScriptTree};
 ghost use Rattle.redo_script.specs.Tokens.{Token as Symbol};
-ghost use Rattle.redo_script.specs.inside.Passes.{IsOn, ParsesOn};
-ghost use Rattle.redo_script.specs.Faults.{Gives, fault_at, no_memory};
+ghost use Rattle.redo_script.specs.inside.Passes.{ParsesOn};
+ghost use Rattle.redo_script.specs.Faults.{Gives, fault_at};
 ghost use Rattle.redo_script.specs.inside.Calls.{Leaves};
-ghost use Rattle.redo_script.specs.Parsing.{with_command, with_condition, if_opened, at_else, at_fi, then_word};
-ghost use Rattle.redo_script.specs.Parsing.{for_opened, at_done, misplaced, loop_named, words_begun, loop_word};
+ghost use Rattle.redo_script.specs.Parsing.{with_command, with_condition, then_word};
+ghost use Rattle.redo_script.specs.Parsing.{misplaced, loop_named, words_begun, loop_word};
 ghost use Rattle.redo_script.specs.Parsing.{do_word};
 ghost use Rattle.redo_script.specs.Parsing.{condition_word, first_word, a_word, a_redirect, a_separator, next_token};
-ghost use Rattle.redo_script.specs.Parsing.{unless_open, end_by_phase, at_first, parse_on, statements_of};
+ghost use Rattle.redo_script.specs.Parsing.{unless_open, end_by_phase, at_first, parse_on};
 ghost use Rattle.redo_script.specs.Grammar.{name_of};
 ghost use Rattle.redo_script.specs.View.{condition_of, script_of, words_of};
 ghost use Rattle.redo_script.specs.inside.Lexer.{token_of};
-ghost use Rattle.redo_script.specs.inside.Parser.{item_of, partial_of, open_of, parser_of};
+ghost use Rattle.redo_script.specs.inside.Parser.{item_of, partial_of, parser_of};
 
 use crate::ast::{Condition, Script, Stmt, Word};
 use crate::fault::{Reason, ScriptFault};
 use crate::item::Item;
 use crate::name::CommandName;
-use crate::open::{Open, OpenIf, OpenLoop, binds, count_ifs, count_loops};
+use crate::open::{Open, OpenLoop, binds};
 use crate::partial::PartialCommand;
 use crate::token::Token;
 use redo_bytes::Bytes;
@@ -73,139 +75,6 @@ impl<'a> Parser<'a> {
         Err(ScriptFault { line, why })
     }
 
-    /// `else`, with this as the innermost open one.
-    #[tactic(auto, using(crate::proofs::StatementLemmas::stack_push, crate::proofs::StatementLemmas::script_empty))]
-    fn begin_second(&mut self, line: u64, innermost: Open) -> Result<(), ScriptFault>
-        ensures { Leaves parser_of self.new result
-            (at_else (parser_of self.old) line (open_of innermost ∷ (parser_of self.old).opens)) }
-    {
-        let Open::If(innermost) = innermost else {
-            return Parser::fault(line, Reason::IfShape);
-        };
-        if innermost.first.is_some() || self.so_far.is_empty() {
-            return Parser::fault(line, Reason::IfShape);
-        }
-        let second = Vec::with_capacity(self.alloc, 1)?;
-        let first = mem::replace(&mut self.so_far, second);
-        self.opens.push(Open::If(OpenIf {
-            line: innermost.line,
-            condition: innermost.condition,
-            first: Some(first),
-            before: innermost.before,
-        }))?;
-        self.phase = Phase::AtCommand;
-        Ok(())
-    }
-
-    /// `else`
-    fn else_word(&mut self, line: u64) -> Result<(), ScriptFault>
-        ensures { Leaves parser_of self.new result (at_else (parser_of self.old) line (parser_of self.old).opens) }
-    {
-        match self.opens.pop() {
-            Some(open) => self.begin_second(line, open),
-            None => Parser::fault(line, Reason::IfShape),
-        }
-    }
-
-    /// `fi`, with this as the innermost open one.
-    #[tactic(auto, using(crate::proofs::StatementLemmas::script_empty, crate::proofs::StatementLemmas::if_push))]
-    fn close_if(&mut self, line: u64, innermost: Open) -> Result<(), ScriptFault>
-        ensures { Leaves parser_of self.new result
-            (at_fi (parser_of self.old) line (open_of innermost ∷ (parser_of self.old).opens)) }
-    {
-        let Open::If(innermost) = innermost else {
-            return Parser::fault(line, Reason::IfShape);
-        };
-        if self.so_far.is_empty() {
-            return Parser::fault(line, Reason::IfShape);
-        }
-        let OpenIf {
-            line: if_line,
-            condition,
-            first,
-            before,
-        } = innermost;
-        let branch = mem::replace(&mut self.so_far, before);
-        match first {
-            None => self
-                .so_far
-                .push(Stmt::If(if_line, condition, branch, Vec::new(self.alloc)))?,
-            Some(first) => self
-                .so_far
-                .push(Stmt::If(if_line, condition, first, branch))?,
-        }
-        self.phase = Phase::BehindFi(line);
-        Ok(())
-    }
-
-    /// `fi`
-    fn fi_word(&mut self, line: u64) -> Result<(), ScriptFault>
-        ensures { Leaves parser_of self.new result (at_fi (parser_of self.old) line (parser_of self.old).opens) }
-    {
-        match self.opens.pop() {
-            Some(open) => self.close_if(line, open),
-            None => Parser::fault(line, Reason::IfShape),
-        }
-    }
-
-    /// `done`, with this as the innermost open one.
-    #[tactic(auto, using(crate::proofs::StatementLemmas::script_empty, crate::proofs::StatementLemmas::loop_push))]
-    fn close_loop(&mut self, line: u64, innermost: Open) -> Result<(), ScriptFault>
-        ensures { Leaves parser_of self.new result
-            (at_done (parser_of self.old) line (open_of innermost ∷ (parser_of self.old).opens)) }
-    {
-        let Open::Loop(innermost) = innermost else {
-            return Parser::fault(line, Reason::Shape);
-        };
-        let OpenLoop {
-            line: for_line,
-            name,
-            words,
-            before,
-        } = innermost;
-        let body = mem::replace(&mut self.so_far, before);
-        if body.is_empty() {
-            return Parser::fault(line, Reason::Shape);
-        }
-        self.so_far.push(Stmt::Loop(for_line, name, words, body))?;
-        self.phase = Phase::BehindDone(line);
-        Ok(())
-    }
-
-    /// `done`
-    fn done_word(&mut self, line: u64) -> Result<(), ScriptFault>
-        ensures { Leaves parser_of self.new result (at_done (parser_of self.old) line (parser_of self.old).opens) }
-    {
-        match self.opens.pop() {
-            Some(open) => self.close_loop(line, open),
-            None => Parser::fault(line, Reason::Shape),
-        }
-    }
-
-    /// `if` in the place of a command.
-    #[tactic(auto, using(crate::proofs::OpenLemmas::ifs_are, crate::proofs::OpenLemmas::ifs_few))]
-    fn if_word(&mut self, line: u64) -> Result<(), ScriptFault>
-        ensures { Leaves parser_of self.new result (if_opened (parser_of self.old) line) }
-    {
-        // If fewer are open in all, no counting is needed.
-        if self.opens.len() >= 16 && count_ifs(&self.opens) >= 16 {
-            return Parser::fault(line, Reason::TooDeep);
-        }
-        self.phase = Phase::BehindIf(line);
-        Ok(())
-    }
-
-    /// `for` in the place of a command.
-    fn for_word(&mut self, line: u64) -> Result<(), ScriptFault>
-        ensures { Leaves parser_of self.new result (for_opened (parser_of self.old) line) }
-    {
-        if count_loops(&self.opens) >= 2 {
-            return Parser::fault(line, Reason::TooDeep);
-        }
-        self.phase = Phase::BehindFor(line);
-        Ok(())
-    }
-
     /// A word that is out of place. A reserved word of a loop is reported on its own line.
     fn misplaced(line: u64, at: u64, item: &Item) -> Result<(), ScriptFault>
         ensures { result ≡ misplaced line at (item_of item.now) }
@@ -217,7 +86,6 @@ impl<'a> Parser<'a> {
     }
 
     /// A word where `then` must be.
-    #[tactic(auto, using(crate::proofs::StatementLemmas::stack_push))]
     fn then_word(&mut self, line: u64, at: u64, item: Item<'a>) -> Result<(), ScriptFault>
         ensures { Leaves parser_of self.new result
             (then_word (parser_of self.old) line (condition_of self.old.condition) at (item_of item.entry)) }
@@ -225,18 +93,7 @@ impl<'a> Parser<'a> {
         if !item.is_named(b"then") {
             return Parser::misplaced(at, at, &item);
         }
-        // Many branches have one statement.
-        let branch = Vec::with_capacity(self.alloc, 1)?;
-        let before = mem::replace(&mut self.so_far, branch);
-        let condition = mem::replace(&mut self.condition, Condition::True);
-        self.opens.push(Open::If(OpenIf {
-            line,
-            condition,
-            first: None,
-            before,
-        }))?;
-        self.phase = Phase::AtCommand;
-        Ok(())
+        self.begin_first(line)
     }
 
     /// A word after `if`.
@@ -422,7 +279,7 @@ impl<'a> Parser<'a> {
     }
 
     /// `;` or a newline
-    fn separator(&mut self, line: u64, is_newline: bool) -> Result<(), ScriptFault>
+    pub fn separator(&mut self, line: u64, is_newline: bool) -> Result<(), ScriptFault>
         ensures { Leaves parser_of self.new result
             (a_separator (parser_of self.old).phase (parser_of self.old) line is_newline) }
     {
@@ -459,32 +316,20 @@ impl<'a> Parser<'a> {
         }
     }
 
-    /// Makes room for the first statements, as many as these tokens may end. Most scripts have no others, and then none
-    /// is moved.
-    fn make_room(&mut self, tokens: &[Token]) -> Result<(), ScriptFault>
-        ensures { Leaves parser_of self.new result (Ok (parser_of self.old)) }
-    {
-        if self.so_far.capacity() == 0 {
-            let ends = tokens.iter().filter(|token| token.is_separator()).count();
-            self.so_far.reserve_exact(ends)?;
-        }
-        Ok(())
-    }
-
-    /// Reads these tokens, up to the first with a fault.
-    fn tokens(&mut self, tokens: Vec<Token<'a>>) -> Result<(), ScriptFault>
+    /// Reads these tokens, up to the first with a fault. Others are left in their places.
+    pub fn tokens(&mut self, tokens: &mut Vec<Token<'a>>) -> Result<(), ScriptFault>
         ensures { (ts : List Symbol) (total : Result ScriptTree ScriptFault) →
-            parse_on (parser_of self.old) (map token_of tokens.entry.items ++ ts) ≡ total →
+            parse_on (parser_of self.old) (map token_of tokens.old.items ++ ts) ≡ total →
             ParsesOn (parser_of self.new) result ts total }
     {
-        self.make_room(&tokens)?;
-        for token in tokens {
+        for place in tokens.iter_mut() {
+            let token = mem::replace(place, Token::Semicolon(0));
             self.token(token)?;
         }
         Ok(())
     }
 
-    fn new(alloc: Global) -> Parser<'a>
+    pub fn new(alloc: Global) -> Parser<'a>
         ensures { parser_of result ≡ at_first }
     {
         Parser {
@@ -516,7 +361,7 @@ impl<'a> Parser<'a> {
     }
 
     /// Ends the script.
-    fn finish(&mut self) -> Result<Script, ScriptFault>
+    pub fn finish(&mut self) -> Result<Script, ScriptFault>
         ensures { Gives (λ s. script_of s.stmts.items) result
             (end_by_phase (parser_of self.old).phase (parser_of self.old)) }
     {
@@ -537,58 +382,6 @@ impl<'a> Parser<'a> {
             | Phase::BehindName(line)
             | Phase::InWords(line)
             | Phase::BeforeDo(line) => Parser::fault(line, Reason::Shape),
-        }
-    }
-}
-
-/// The statements read so far, or the first fault among them.
-#[derive(Drop)]
-pub struct Statements<'a> {
-    parser: Parser<'a>,
-    fault: Option<ScriptFault>,
-}
-
-impl<'a> Statements<'a> {
-    #[tactic(auto, unfolding(crate::specs::Parsing::statements_of))]
-    pub fn new(alloc: Global) -> Statements<'a>
-        ensures { (ts : List Symbol) → IsOn result ts (statements_of ts) }
-    {
-        Statements {
-            parser: Parser::new(alloc),
-            fault: None,
-        }
-    }
-
-    /// Reads these tokens. A fault among them is kept, and nothing after it is read. Running out of memory is no such
-    /// fault; it is reported at once.
-    pub fn tokens(&mut self, tokens: Vec<Token<'a>>) -> Result<(), ScriptFault>
-        ensures reads { (ts : List Symbol) (total : Result ScriptTree ScriptFault) →
-            IsOn self.old (map token_of tokens.entry.items ++ ts) total → OnOk result (IsOn self.new ts total) }
-        ensures memory { IfErr result (λ fault. fault ≡ no_memory) }
-    {
-        if self.fault.is_some() {
-            return Ok(());
-        }
-        match self.parser.tokens(tokens) {
-            Ok(()) => Ok(()),
-            Err(fault) => {
-                if fault.is_memory() {
-                    return Err(fault);
-                }
-                self.fault = Some(fault);
-                Ok(())
-            }
-        }
-    }
-
-    /// Ends the script.
-    pub fn finish(&mut self) -> Result<Script, ScriptFault>
-        ensures { (total : Result ScriptTree ScriptFault) →
-            IsOn self.old [] total → Gives (λ s. script_of s.stmts.items) result total }
-    {
-        match self.fault {
-            None => self.parser.finish(),
-            Some(fault) => Err(fault),
         }
     }
 }

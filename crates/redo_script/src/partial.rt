@@ -1,13 +1,13 @@
 //! A command that has been read in part.
 
-ghost use Rattle.std.specs.Prelude.{◌≡◌, Ok, [], map, option_map};
+ghost use Rattle.std.specs.Prelude.{◌≡◌, Ok, [], map, option_map, true};
 ghost use Rattle.redo_script.specs.Faults.{Gives};
 ghost use Rattle.redo_script.specs.inside.Calls.{Leaves};
 ghost use Rattle.redo_script.specs.Parsing.{begin_command, with_word, with_redirect, is_unfinished};
 ghost use Rattle.redo_script.specs.Grammar.{knows, knows_items};
 ghost use Rattle.redo_script.specs.Parsing.{ended_command, ended_condition, names_in};
 ghost use Rattle.redo_script.specs.View.{command_of, condition_of, word_of};
-ghost use Rattle.redo_script.specs.inside.Parser.{item_of, word_named, partial_of, stack_onto};
+ghost use Rattle.redo_script.specs.inside.Parser.{item_of, word_named, partial_of, stack_onto, takes_operands};
 
 use crate::ast::{Command, Condition, Redirection};
 use crate::fault::{Reason, ScriptFault};
@@ -81,6 +81,24 @@ impl<'a> PartialCommand<'a> {
         } else {
             self.items.push(item)?;
         }
+        Ok(())
+    }
+
+    /// Whether the words that come next are operands.
+    #[inline(always)]
+    pub fn takes_operands(&self) -> bool
+        ensures { result ≡ takes_operands (partial_of self.now) }
+    {
+        self.awaits.is_none() && self.redirection.is_none()
+    }
+
+    /// One more operand.
+    #[inline(always)]
+    pub fn push_operand(&mut self, item: Item<'a>) -> Result<(), ScriptFault>
+        requires { takes_operands (partial_of self.old) ≡ true }
+        ensures { Leaves partial_of self.new result (Ok (with_word (partial_of self.old) (item_of item.entry))) }
+    {
+        self.items.push(item)?;
         Ok(())
     }
 

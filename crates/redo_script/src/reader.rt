@@ -1,5 +1,7 @@
 //! From a whole text to its tree.
 
+mod passes;
+
 ghost use Rattle.std.specs.Prelude.{◌≡◌, ◌≢◌, [], IfOk, IfErr, Ok, not};
 ghost use Rattle.std.specs.Str.{bytes_eq};
 ghost use Rattle.redo_script.specs.Faults.{Gives, no_memory};
@@ -13,8 +15,7 @@ ghost use Rattle.redo_script.specs.Refused.{IsRefused};
 
 use crate::ast::Script;
 use crate::fault::{Reason, ScriptFault};
-use crate::lexer::Lexer;
-use crate::parser::Statements;
+use crate::reader::passes::Passes;
 use std::alloc::Global;
 
 /// Whether the text has a NUL byte. It looks at every byte, which is faster than stopping at the first NUL.
@@ -73,24 +74,16 @@ fn has_fit_interpreter(text: &[u8]) -> bool
     }
 }
 
-/// The tree of a text, from its tokens and its commands. The two passes run side by side: if the commands have a fault,
-/// the tokens are still read to the end, since a fault of theirs goes first. Only running out of memory ends both at
-/// once.
+/// The tree of a text, from its tokens and its commands.
 fn read_statements(alloc: Global, text: &[u8]) -> Result<Script, ScriptFault>
     ensures { Gives (λ t. script_of t.stmts.items) result (script_by_tokens text.now) }
 {
-    let mut lexer = Lexer::new(alloc);
-    lexer.make_room()?;
-    let mut statements = Statements::new(alloc);
-    let mut left = lexer.between_words(text)?;
-    while let [byte, rest @ ..] = left {
-        left = lexer.step(*byte, rest)?;
-        if lexer.has_many() {
-            statements.tokens(lexer.take_tokens()?)?;
-        }
+    let mut passes = Passes::new(alloc);
+    let mut left = text;
+    while !left.is_empty() {
+        left = passes.advance(left)?;
     }
-    statements.tokens(lexer.finish()?)?;
-    statements.finish()
+    passes.finish()
 }
 
 /// The tree of a text, or the fault of the first pass that has one.

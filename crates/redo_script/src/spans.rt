@@ -1,11 +1,11 @@
 //! Runs of bytes of one kind: how long they are, and what follows them.
 
 ghost use Rattle.std.specs.Prelude.{◌≡◌, ◌≤◌, IfSome, length, take, true};
-ghost use Rattle.redo_script.specs.Reading.{Reader, read_on};
+ghost use Rattle.redo_script.specs.Reading.{Reader, read_on, with_mode};
 ghost use Rattle.redo_script.specs.declared.lexer.Mode.TheVariants as modes;
-ghost use Rattle.redo_script.specs.Bytes.{is_blank};
+ghost use Rattle.redo_script.specs.Bytes.{is_blank, semicolon};
 ghost use Rattle.redo_script.specs.inside.Runs.{is_special, is_quote, all_quotable, all_plain, all_digits};
-ghost use Rattle.redo_script.specs.inside.Runs.{ends_plainly};
+ghost use Rattle.redo_script.specs.inside.Runs.{begins_with, ends_plainly};
 ghost use Rattle.redo_script.specs.inside.Lexer.{with_quoted};
 
 use crate::bytes::is_plain_byte;
@@ -106,6 +106,13 @@ pub fn is_word_end(rest: &[u8]) -> bool
     matches!(rest, [] | [b' ' | b'\t' | b'\n' | b';', ..])
 }
 
+/// Whether the text begins with `;`.
+pub fn begins_semicolon(text: &[u8]) -> bool
+    ensures { result ≡ begins_with semicolon text.now }
+{
+    matches!(text, [b';', ..])
+}
+
 fn is_blank_byte(byte: u8) -> bool
     ensures { result ≡ is_blank byte }
 {
@@ -129,6 +136,9 @@ pub fn past_blanks(text: &[u8]) -> &[u8]
 /// The text from the end of a comment's line on.
 pub fn past_comment(text: &[u8]) -> &[u8]
     ensures reads { (r : Reader) → r.mode ≡ modes.Comment → read_on r result.now ≡ read_on r text.now }
+    // What comes after it is read as between words.
+    ensures gap { (r : Reader) → r.mode ≡ modes.Gap →
+        read_on r result.now ≡ read_on (with_mode r modes.Comment) text.now }
     ensures within { length result.now ≤ length text.now }
 {
     let mut left = text;

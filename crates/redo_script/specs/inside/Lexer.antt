@@ -36,6 +36,10 @@ reader_of l = record {
 abbrev pub with_no_tokens : Reader → Reader
 with_no_tokens r = record r { tokens = [] }
 
+-- the lexer on another line
+abbrev pub at_line : Lexer → ℕ → Lexer
+at_line l n = record l { line = n }
+
 -- a word that is one pair of quotes around these bytes, then a place between words
 abbrev pub with_quoted : Reader → List ℕ → Reader
 with_quoted r bytes = with_token (with_quote (with_begun_word r) modes.Single) (word r.line false (map byte bytes))

@@ -2,7 +2,8 @@
 use Rattle.std.specs.Prelude.{◌+◌, ℕ, Bool, true, false, ◌&&◌, ◌||◌, nat_le, if◌then◌else◌, length, List, [], ◌∷◌, map}
 use Rattle.std.specs.Prelude.{Option, None, option_map, codes}
 use Rattle.std.specs.Str.{bytes_eq}
-use Rattle.redo_script.specs.Syntax.{byte, Word}
+use Rattle.std.specs.Option.{is_none}
+use Rattle.redo_script.specs.Syntax.{byte, Word, Condition, finish}
 use Rattle.redo_script.specs.Grammar.{at_most, digits_value, Item}
 use Rattle.redo_script.specs.declared.item.Item.{Item as ItemTree}
 use Rattle.redo_script.specs.declared.item.Item.TheVariants as items
@@ -44,6 +45,10 @@ spelling_of names.Exit = codes "exit"
 abbrev pub word_named : CommandName → Item
 word_named name = record { is_plain = true; word = map byte (spelling_of name) }
 
+-- a word of plain bytes
+abbrev pub plain_item : List ℕ → Item
+plain_item bytes = record { is_plain = true; word = map byte bytes }
+
 -- what was read of a command
 abbrev pub partial_of : PartialTree → PartialCommand
 partial_of b = record {
@@ -54,6 +59,10 @@ partial_of b = record {
   is_ill = b.is_ill;
   awaits = b.awaits;
 }
+
+-- the words that come next are operands
+abbrev pub takes_operands : PartialCommand → Bool
+takes_operands b = is_none b.awaits && is_none b.redirection
 
 -- what is expected next, given the command that is being read, and the condition, the name and the words that were read
 -- last
@@ -96,6 +105,15 @@ parser_of p = record {
   opens = stack_onto [] p.opens.items;
   so_far = script_of p.so_far.items;
 }
+
+-- something else is expected next
+abbrev pub with_phase : Parser → Phase → Parser
+with_phase p phase = record p { phase = phase }
+
+-- an if whose condition was read is open, and its first branch has no statement yet
+abbrev pub if_begun : Parser → ℕ → Condition → Parser
+if_begun p line c =
+    record { phase = at_command; opens = open_if line c None p.so_far ∷ p.opens; so_far = finish }
 
 -- the status of a number with this value and this many digits so far, which these symbols continue
 abbrev pub status_on : ℕ → ℕ → Word → Option ℕ

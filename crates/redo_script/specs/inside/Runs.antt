@@ -1,5 +1,5 @@
 -- Runs of bytes that are read at once.
-use Rattle.std.specs.Prelude.{not, ◌≡◌, ℕ, Bool, true, ◌&&◌, ◌||◌, ◌==◌, List, [], ◌∷◌, Result, Ok, Err}
+use Rattle.std.specs.Prelude.{not, ◌≡◌, ℕ, Bool, true, false, ◌&&◌, ◌||◌, ◌==◌, List, [], ◌∷◌, Result, Ok, Err}
 use Rattle.redo_script.specs.declared.fault.ScriptFault.{ScriptFault}
 use Rattle.redo_script.specs.Faults.{Fails}
 use Rattle.redo_script.specs.Tokens.{Token, is_escaped}
@@ -28,6 +28,11 @@ all_digits (b ∷ bs) = is_digit b && all_digits bs
 abbrev pub ends_plainly : List ℕ → Bool
 ends_plainly [] = true
 ends_plainly (b ∷ bs) = is_blank b || (b == bytes.newline) || (b == bytes.semicolon)
+
+-- this byte comes first
+abbrev pub begins_with : ℕ → List ℕ → Bool
+begins_with c [] = false
+begins_with c (b ∷ bs) = b == c
 
 -- a byte that isn't literal in quotes of one kind or the other, or ends a line
 abbrev pub is_special : ℕ → Bool

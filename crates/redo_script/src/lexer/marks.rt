@@ -98,7 +98,7 @@ impl<'a> Scanner<'a> {
         ensures { self.new.lexer.line ≡ self.old.lexer.line }
     {
         let mut marked = Vec::new(self.lexer.alloc);
-        for token in self.lexer.take_tokens()? {
+        for token in self.lexer.take_tokens() {
             let span = span_of(&token, self.begun, at);
             marked.push(Marked { token, span })?;
         }

@@ -1,4 +1,4 @@
-//! From bytes to tokens, many bytes at once: words that occur in the text as they are, and runs of bytes of one kind.
+//! From bytes to tokens, many bytes at once: runs of bytes of one kind.
 
 ghost use Rattle.std.specs.Prelude.{◌≡◌, ◌+◌, ◌<◌, ◌≤◌, ◌^◌, map, Ok, OnOk, IfOk, ◌∷◌, ◌⊎◌, length};
 ghost use Rattle.redo_script.specs.inside.Calls.{Leaves, with_symbols};
@@ -10,16 +10,9 @@ ghost use Rattle.redo_script.specs.inside.Lexer.{reader_of};
 
 use crate::ast::Part;
 use crate::fault::ScriptFault;
-use crate::item::Item;
 use crate::lexer::{Lexer, Mode, parameter_of};
-use crate::spans::{
-    is_number, is_word_end, past_blanks, past_comment, plain_len, quotable_len, quoted_alone,
-};
-use crate::token::Token;
+use crate::spans::{is_number, is_word_end, past_comment, plain_len, quotable_len};
 use redo_bytes::Bytes;
-
-/// A run of words ends at this many tokens, so that they can be taken.
-const MOST: usize = 60;
 
 impl<'a> Lexer<'a> {
     /// Takes plain bytes of the current word.
@@ -52,102 +45,7 @@ impl<'a> Lexer<'a> {
         Ok(rest)
     }
 
-    /// Takes a word, if the next one has plain bytes only.
-    fn plain_word(&mut self, text: &'a [u8]) -> Result<&'a [u8], ScriptFault>
-        requires { self.old.mode ≡ modes.Gap }
-        ensures reads { ReadsOn (reader_of self.new) result (read_on (reader_of self.old) text.now) }
-        ensures line { self.new.line ≡ self.old.line }
-        ensures rest { IfOk result (λ rest. length rest.now ≤ length text.now) }
-        ensures mode { OnOk result (self.new.mode ≡ modes.Gap) }
-    {
-        let (bytes, rest) = text.split_at(plain_len(text));
-        if bytes.is_empty() || !is_word_end(rest) {
-            return Ok(text);
-        }
-        self.begin_word();
-        self.is_number = is_number(bytes);
-        self.push_token(Token::Word(self.word_line, Item::Lent(true, bytes)))?;
-        Ok(rest)
-    }
-
-    /// Takes a word, if the next one is a single pair of quotes around literal bytes.
-    fn quoted_word(&mut self, text: &'a [u8]) -> Result<&'a [u8], ScriptFault>
-        requires { self.old.mode ≡ modes.Gap }
-        ensures reads { ReadsOn (reader_of self.new) result (read_on (reader_of self.old) text.now) }
-        ensures line { self.new.line ≡ self.old.line }
-        ensures rest { IfOk result (λ rest. length rest.now ≤ length text.now) }
-        ensures mode { OnOk result (self.new.mode ≡ modes.Gap) }
-    {
-        let Some((bytes, rest)) = quoted_alone(text) else {
-            return Ok(text);
-        };
-        self.begin_word();
-        self.open_quote(Mode::Single);
-        self.push_token(Token::Word(self.word_line, Item::Lent(false, bytes)))?;
-        Ok(rest)
-    }
-
-    /// Takes a word, if the next one occurs in the text as it is.
-    fn lent_word(&mut self, text: &'a [u8]) -> Result<&'a [u8], ScriptFault>
-        requires { self.old.mode ≡ modes.Gap }
-        ensures reads { ReadsOn (reader_of self.new) result (read_on (reader_of self.old) text.now) }
-        ensures line { self.new.line ≡ self.old.line }
-        ensures rest { IfOk result (λ rest. length rest.now ≤ length text.now) }
-        ensures mode { OnOk result (self.new.mode ≡ modes.Gap) }
-    {
-        match text {
-            [b'\'' | b'"', ..] => self.quoted_word(text),
-            _ => self.plain_word(text),
-        }
-    }
-
-    /// Takes words that occur in the text as they are, and the blanks around them, until something else comes or there
-    /// are many tokens.
-    fn lent_words(&mut self, text: &'a [u8]) -> Result<&'a [u8], ScriptFault>
-        requires { self.old.mode ≡ modes.Gap }
-        ensures reads { ReadsOn (reader_of self.new) result (read_on (reader_of self.old) text.now) }
-        ensures line { self.new.line ≡ self.old.line }
-        ensures rest { IfOk result (λ rest. length rest.now ≤ length text.now) }
-        ensures mode { OnOk result (self.new.mode ≡ modes.Gap) }
-    {
-        let mut behind = text.len() + 1;
-        let mut left = past_blanks(text);
-        while left.len() < behind && self.tokens.len() < MOST {
-            behind = left.len();
-            left = past_blanks(self.lent_word(left)?);
-        }
-        Ok(left)
-    }
-
-    /// Takes a comment, if one comes next, up to the end of its line.
-    fn comment(&mut self, text: &'a [u8]) -> &'a [u8]
-        requires { self.old.mode ≡ modes.Gap }
-        ensures reads { read_on (reader_of self.new) result.now ≡ read_on (reader_of self.old) text.now }
-        ensures line { self.new.line ≡ self.old.line }
-        ensures rest { length result.now ≤ length text.now }
-    {
-        let [byte, rest @ ..] = text else {
-            return text;
-        };
-        if *byte != b'#' {
-            return text;
-        }
-        self.mode = Mode::Comment;
-        past_comment(rest)
-    }
-
-    /// Takes words that occur in the text as they are, and a comment after them.
-    pub fn between_words(&mut self, text: &'a [u8]) -> Result<&'a [u8], ScriptFault>
-        requires { self.old.mode ≡ modes.Gap }
-        ensures reads { ReadsOn (reader_of self.new) result (read_on (reader_of self.old) text.now) }
-        ensures line { self.new.line ≡ self.old.line }
-        ensures rest { IfOk result (λ rest. length rest.now ≤ length text.now) }
-    {
-        let left = self.lent_words(text)?;
-        Ok(self.comment(left))
-    }
-
-    /// Takes plain bytes of the current word and, if it ends there, what comes after it.
+    /// Takes plain bytes of the current word, and the word if it ends there.
     fn word_bytes(&mut self, text: &'a [u8]) -> Result<&'a [u8], ScriptFault>
         requires { self.old.mode ≡ modes.Word }
         ensures reads { ReadsOn (reader_of self.new) result (read_on (reader_of self.old) text.now) }
@@ -159,7 +57,7 @@ impl<'a> Lexer<'a> {
             return Ok(left);
         }
         self.push_word()?;
-        self.between_words(left)
+        Ok(left)
     }
 
     /// Takes a parameter in double quotes, if one comes next.
@@ -233,7 +131,6 @@ impl<'a> Lexer<'a> {
         ensures rest { IfOk result (λ rest. length rest.now ≤ length text.now) }
     {
         match self.mode {
-            Mode::Gap => self.between_words(text),
             Mode::Comment => Ok(past_comment(text)),
             Mode::Word => self.word_bytes(text),
             Mode::Single => self.quoted_bytes(text),

@@ -5,5 +5,4 @@ use Rattle.redo_script.proofs.lexer.Lexer.word_bytes.Goals as goal
 
 pub returns-clause-reads : goal.returns-clause-reads
 returns-clause-reads c =
-    let over = word_over (reader_of c.plain_bytes.new.self) (reader_of c.push_word.new.self) c.in_ok-left.left.now c.in_ok-left.ensures.mode (sym c.is_word_end.ensures ∙ c.if-not-is_word_end.false) c.in_ok-push_word.ensures.reads in
-    rw (sym c.in_ok-left.ensures.reads ∙ over) c.between_words.ensures.reads
+    sym (word_over (reader_of c.plain_bytes.new.self) (reader_of c.push_word.new.self) c.in_ok-left.left.now c.in_ok-left.ensures.mode (sym c.is_word_end.ensures ∙ c.if-not-is_word_end.false) c.in_ok-push_word.ensures.reads) ∙ c.in_ok-left.ensures.reads

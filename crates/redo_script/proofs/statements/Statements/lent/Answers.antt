@@ -1,0 +1,17 @@
+use Rattle.std.proofs.Common.{◌∙◌, ◌∷◌, [], map, refl, sym}
+use Rattle.redo_script.specs.Syntax.{byte}
+use Rattle.redo_script.specs.Tokens.{word}
+use Rattle.redo_script.specs.inside.Parser.{parser_of}
+use Rattle.redo_script.proofs.ReadTokenLemmas.{is_none, is_read, keeps_wanting, one_more}
+use Rattle.redo_script.proofs.statements.Statements.lent.Goals as goal
+
+pub returns : goal.returns
+returns c =
+    let old = c.args.self.now in
+    let p = parser_of old.parser in
+    let token = word c.args.line c.args.is_plain (map byte c.args.bytes.now) in
+    let none = is_none old.fault (sym c.is_some.ensures ∙ c.if-is_some.false) in
+    record {
+      reads = λ ts total h. c.keep.ensures.reads ts total (one_more p c.lent-outcome.new.self token ts total c.lent-outcome.result c.lent-outcome.ensures (is_read old (token ∷ ts) total none h));
+      memory = keeps_wanting p (parser_of c.lent-outcome.new.self) (token ∷ []) c.lent-outcome.result c.keep.result (one_more p c.lent-outcome.new.self token [] _ c.lent-outcome.result c.lent-outcome.ensures refl) c.keep.ensures.memory;
+    }
