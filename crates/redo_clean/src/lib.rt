@@ -18,5 +18,5 @@ mod text;
 pub use cleaning::clean;
 pub use fate::Fate;
 pub use faults::CleanFault;
-pub use planning::{CleanPlan, has_book, plan};
+pub use planning::{CleanPlan, plan};
 pub use text::{cleaned_text, planned_text};

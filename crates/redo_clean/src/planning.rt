@@ -4,15 +4,13 @@ ghost use Rattle.std.specs.Prelude.{◌≡◌, ◌↔◌, IfOk, IsTrue, None, fa
 ghost use Rattle.redo_tree.specs.Tree.{file_at};
 ghost use Rattle.redo_which.specs.Candidates.{book_path};
 ghost use Rattle.redo_book.specs.Book.{record_of};
-ghost use Rattle.redo_past.specs.Past.{is_generated as was_generated};
 ghost use Rattle.redo_clean.specs.Planned.{changed_targets, generated_file, generated_files, is_changed as was_changed};
 
 use redo_book::BookRecord;
 use redo_dir::Left;
-use redo_past::Past;
+use redo_past::{Past, has_book, is_generated};
 use redo_path::Path;
 use redo_tree::{Content, Tree};
-use redo_which::BOOK;
 use std::alloc::{AllocError, Global};
 
 /// What a clean would do to a directory.
@@ -36,23 +34,6 @@ impl CleanPlan {
         ensures { IsTrue result ↔ ((self.now.left ≡ None) × (self.now.book ≡ false)) }
     {
         self.left.is_none() && !self.book
-    }
-}
-
-/// Whether a tree has a book.
-pub fn has_book(tree: &Tree) -> bool
-    ensures { result ≡ is_some (file_at tree.now book_path) }
-{
-    tree.file_by_text(BOOK).is_some()
-}
-
-/// Whether the file at a record's target is generated.
-fn is_generated(tree: &Tree, made: &BookRecord) -> bool
-    ensures { result ≡ was_generated tree.now (record_of made.now) }
-{
-    match (tree.content(&made.target), &made.state) {
-        (Some(content), Some(digest)) => content.digest() == *digest,
-        _ => false,
     }
 }
 

@@ -1,12 +1,10 @@
 //! The scripts that a build began, and why.
 
 ghost use Rattle.std.specs.Prelude.{◌≡◌, IfOk, map, option_map};
-ghost use Rattle.redo_book.specs.Book.{record_at, record_of};
-ghost use Rattle.redo_book.specs.Intact.{is_intact as stands_as_left};
+ghost use Rattle.redo_book.specs.Book.{record_at};
 ghost use Rattle.redo_rules.specs.Build.{GivenView, last_run_of};
 ghost use Rattle.redo_rules.specs.Results.{IsGiven, IsResult};
 ghost use Rattle.redo_step.specs.Limits.{LimitsView};
-ghost use Rattle.redo_tree.specs.Tree.{file_at};
 ghost use Rattle.redo_why.specs.Reasons.{reason_of, reason_recorded};
 ghost use Rattle.redo_explain.specs.Explained.{AreReasons};
 ghost use Rattle.redo_explain.specs.Views.{begun_view, reason_view};
@@ -14,10 +12,10 @@ ghost use Rattle.redo_explain.specs.inside.Listed.{begun_in};
 ghost use Rattle.redo_explain.specs.inside.Told.{AreRows, sources_in, told_by};
 
 use crate::standing::first_fallen;
-use redo_book::{BookEntry, BookRecord};
+use redo_book::BookEntry;
 use redo_names::PathSet;
 use redo_past::laws::a_tree_has_one_past;
-use redo_past::{Past, has_state};
+use redo_past::{Past, is_intact};
 use redo_path::Path;
 use redo_report::{Report, Row};
 use redo_why_trees::laws::reports_give_reasons;
@@ -43,13 +41,6 @@ pub struct Begun<'a> {
     pub reason: Reason<'a>,
 }
 
-/// Whether a record's target is as the last run left it.
-fn is_intact(past: &Past, made: &BookRecord) -> bool
-    ensures { result ≡ stands_as_left (file_at past.now.tree) (record_of made.now) }
-{
-    has_state(past.tree().content(&made.target), &made.state)
-}
-
 /// The reason by the record of a target that wasn't requested.
 fn reason_by_record<'a>(
     alloc: Global,
@@ -64,7 +55,7 @@ fn reason_by_record<'a>(
     let Some(made) = past.book().find(target) else {
         return Ok(Some(Reason::Unrecorded));
     };
-    if !is_intact(past, made) {
+    if !is_intact(past.tree(), made) {
         return Ok(Some(Reason::Altered));
     }
     match first_fallen(alloc, past, rows, &made.entries)? {

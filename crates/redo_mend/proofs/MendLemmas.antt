@@ -19,7 +19,8 @@ use Rattle.redo_which.specs.Candidates.{book_path, journal_path}
 use Rattle.redo_book.specs.Book.{IsText, Record, book_lines, text_of}
 use Rattle.redo_past.proofs.OrderLemmas.{same_path}
 use Rattle.redo_dir.specs.Own.{is_own, is_temporary}
-use Rattle.redo_mend.specs.Mended.{IsBookOf, IsMended, IsRecoveredTree, book_to_put, is_taken_out, own_files}
+use Rattle.redo_past.specs.Past.{IsBookOf}
+use Rattle.redo_mend.specs.Mended.{IsMended, IsRecoveredTree, book_to_put, is_taken_out, own_files}
 use Rattle.redo_mend.specs.Recovered.{IsRecovered}
 use Rattle.redo_mend.proofs.OwnLemmas.{among-append, among-filter, book-other, file-among, journal-other}
 

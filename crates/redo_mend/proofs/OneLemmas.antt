@@ -9,13 +9,13 @@ use Rattle.redo_tree.specs.Tree.{Directory, Tree, file_at, node_at, without}
 use Rattle.redo_tree.proofs.KeptLemmas.{one_sorted}
 use Rattle.redo_which.specs.Candidates.{book_path, journal_path}
 use Rattle.redo_book.specs.Book.{IsRefused, IsText, Record}
-use Rattle.redo_past.specs.Past.{RefusesBook}
+use Rattle.redo_past.specs.Past.{IsBookOf, RefusesBook}
 use Rattle.redo_past.specs.declared.faults.PastFault.{PastFault}
 use Rattle.redo_past.specs.declared.faults.PastFault.TheVariants.{Book, Memory}
 use Rattle.redo_past.proofs.OrderLemmas.{same_path}
 use Rattle.redo_dir.specs.Own.{is_own}
 use Rattle.redo_mend.specs.Recovered.{IsRecovered}
-use Rattle.redo_mend.specs.Mended.{HasNoMended, IsBookOf, IsMended, IsPassedOver, IsRecoveredTree, MendsTo}
+use Rattle.redo_mend.specs.Mended.{HasNoMended, IsMended, IsPassedOver, IsRecoveredTree, MendsTo}
 use Rattle.redo_mend.proofs.MendLemmas.{same-node}
 use Rattle.redo_mend.proofs.SaidLemmas.{one-recovered}
 

@@ -8,6 +8,7 @@ use Rattle.std.specs.Str.{bytes_eq}
 use Rattle.redo_tree.specs.Tree.{Directory, IsTree, Tree, file_at, node_at, without}
 use Rattle.redo_which.specs.Candidates.{book_path, journal_path}
 use Rattle.redo_book.specs.Book.{IsText, Record, book_lines, text_of}
+use Rattle.redo_past.specs.Past.{IsBookOf}
 use Rattle.redo_past.specs.declared.faults.PastFault.{PastFault}
 use Rattle.redo_past.specs.declared.faults.PastFault.TheVariants.{Book, Memory}
 use Rattle.redo_dir.specs.Own.{is_own}
@@ -20,10 +21,6 @@ pub record IsMended (tree : Tree) (text : List ℕ) (book : List Record) (mended
   pub own : (p : List ℕ) → p ≢ book_path → is_own text p ≡ true → file_at mended p ≡ None
   pub others : (p : List ℕ) → p ≢ book_path → is_own text p ≡ false → node_at mended p ≡ node_at tree p
   pub directories : (p : List ℕ) → (node_at mended p ≡ Some Directory) ↔ (node_at tree p ≡ Some Directory)
-
--- the book that a file has the text of, or the empty one where there is no file
-abbrev pub IsBookOf : Option (List ℕ) → List Record → Type 0
-IsBookOf file book = MatchOption file (book ≡ []) (λ text. IsText text book)
 
 -- the text is no book's
 abbrev pub IsNoBook : List ℕ → Type 0

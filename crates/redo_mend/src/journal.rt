@@ -1,14 +1,12 @@
-//! The two books: the journal of the run that was broken off, and the old one.
+//! The book that the journal of a run that was broken off has.
 
-ghost use Rattle.std.specs.Prelude.{◌≡◌, ◌≢◌, ◌⊎◌, IfErr, IfOk, MatchOption, Some};
-ghost use Rattle.redo_tree.specs.Tree.{Directory, file_at, node_at};
+ghost use Rattle.std.specs.Prelude.{◌≢◌, IfOk, MatchOption, Some};
+ghost use Rattle.redo_tree.specs.Tree.{Directory, node_at};
 ghost use Rattle.redo_which.specs.Candidates.{book_path};
 ghost use Rattle.redo_book.specs.Book.{IsText};
-ghost use Rattle.redo_past.specs.Past.{RefusesBook};
-ghost use Rattle.redo_mend.specs.Mended.{IsBookOf, IsPassedOver};
+ghost use Rattle.redo_mend.specs.Mended.{IsPassedOver};
 
 use redo_book::{Book, BookFault, read_book};
-use redo_past::PastFault;
 use redo_tree::{Content, Kind, Tree};
 use redo_which::BOOK;
 use std::alloc::{AllocError, Global};
@@ -29,16 +27,5 @@ pub(crate) fn journal_in(
         Ok(book) => Ok(Some(book)),
         Err(BookFault::Line(_)) => Ok(None),
         Err(BookFault::Memory) => Err(AllocError),
-    }
-}
-
-/// The old book of a tree, empty if it has none.
-pub(crate) fn old_book(alloc: Global, tree: &Tree) -> Result<Book, PastFault>
-    ensures book { IfOk result (IsBookOf (file_at tree.now book_path)) }
-    ensures refused { IfErr result (λ fault. RefusesBook fault tree.now) }
-{
-    match tree.file_by_text(BOOK) {
-        Some(text) => Ok(read_book(alloc, text)?),
-        None => Ok(Book::new(alloc)),
     }
 }

@@ -1,20 +1,11 @@
 //! What a run has to clear away before it stores anything.
 
 ghost use Rattle.std.specs.Prelude.{◌≡◌, IfOk};
-ghost use Rattle.redo_which.specs.Candidates.{book_path as path_of_book};
 ghost use Rattle.redo_mend.specs.Mended.{book_to_put as text_to_put};
 
-use redo_path::Path;
+use redo_past::book_path;
 use redo_tree::{Content, Tree};
-use redo_which::BOOK;
 use std::alloc::{AllocError, Global};
-
-/// The path of the book.
-pub(crate) fn book_path(alloc: Global) -> Result<Path, AllocError>
-    ensures { IfOk result (λ path. path ≡ path_of_book) }
-{
-    Path::of_text(alloc, BOOK)
-}
 
 /// The text of the mended tree's book, if the tree that was loaded has another one or none.
 pub(crate) fn book_to_put(

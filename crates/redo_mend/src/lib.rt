@@ -9,7 +9,7 @@
 //!
 //! - `mending`: the mended tree, and what has to be cleared away; `left`: the files to clear away;
 //! - `own`: the temporary files;
-//! - `journal`: the two books; `recovered`: the records that are taken over, and their text; `named`: the files that are
+//! - `journal`: the book that it is; `recovered`: the records that are taken over, and their text; `named`: the files that are
 //!   digested first;
 //! - [`laws`]: a tree has one recovered book and is mended in one way.
 #![tactic(auto)]

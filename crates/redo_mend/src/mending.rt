@@ -9,15 +9,15 @@ ghost use Rattle.redo_mend.specs.Mended.{HasNoMended, IsRecoveredTree, MendsTo};
 ghost use Rattle.redo_mend.specs.Mended.{book_to_put as text_to_put, own_files};
 ghost use Rattle.redo_mend.specs.inside.Leaving.{HasLeft};
 
-use crate::journal::{journal_in, old_book};
-use crate::left::{book_path, book_to_put};
+use crate::journal::journal_in;
+use crate::left::book_to_put;
 use crate::named::targets_named;
 use crate::own::temporaries;
 use crate::recovered::recovered_text;
 use redo_book::Book;
 use redo_book::laws::a_book_has_no_fault;
 use redo_dir::{Left, journal_path};
-use redo_past::PastFault;
+use redo_past::{PastFault, book_of, book_path};
 use redo_path::Path;
 use redo_tree::{Content, Tree};
 use std::alloc::{AllocError, Global};
@@ -69,7 +69,7 @@ fn recover<R: Threads + Sync>(
     ensures refused { IfErr result (λ fault. RefusesBook fault tree) }
 {
     tree.is_tree();
-    let old = old_book(alloc, &tree)?;
+    let old = book_of(alloc, &tree)?;
     let named = targets_named(alloc, &tree, &journal.book, &old)?;
     let tree = tree.keep_digests_by(rt, workers, &named);
     let text = recovered_text(alloc, &tree, &journal.book, &old)?;

@@ -5,13 +5,12 @@ ghost use Rattle.std.specs.Option.{option_or};
 ghost use Rattle.redo_tree.specs.Tree.{file_at};
 ghost use Rattle.redo_bundle.specs.Bundle.{Writes};
 ghost use Rattle.redo_book.specs.Book.{IsBook, Record, book_lines, record_of, text_of};
-ghost use Rattle.redo_book.specs.Intact.{is_intact as stands_as_said};
 ghost use Rattle.redo_mend.specs.Recovered.{IsRecovered, said_at};
 ghost use Rattle.redo_mend.specs.inside.Found.{AreFound, found_at};
 
 use redo_book::{Book, BookRecord, write_end, write_record};
 use redo_bundle::{Broken, ByteOut, Plain};
-use redo_past::has_state;
+use redo_past::is_intact;
 use redo_path::Path;
 use redo_tree::Tree;
 use std::alloc::{AllocError, Global};
@@ -19,13 +18,6 @@ use std::collections::BTreeMap;
 
 /// Records by the paths of their targets.
 type RecordsByPath<'a> = BTreeMap<&'a Path, &'a BookRecord>;
-
-/// Whether the file at a record's target is as the record says.
-fn is_as_said(tree: &Tree, made: &BookRecord) -> bool
-    ensures { result ≡ stands_as_said (file_at tree.now) (record_of made.now) }
-{
-    has_state(tree.content(&made.target), &made.state)
-}
 
 /// Puts those records of a book in their places of which the file is as they say.
 fn put_said<'a>(
@@ -42,7 +34,7 @@ fn put_said<'a>(
         (found_at (map (λ e. (e.0.now, record_of e.1.now)) found.old.entries) p)) }
 {
     for made in records {
-        if is_as_said(tree, made) {
+        if is_intact(tree, made) {
             found.insert(&made.target, made)?;
         }
     }

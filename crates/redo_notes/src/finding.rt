@@ -5,7 +5,6 @@ ghost use Rattle.std.specs.List.{cons_option};
 ghost use Rattle.redo_names.specs.Paths.{is_among};
 ghost use Rattle.redo_tree.specs.Tree.{node_of};
 ghost use Rattle.redo_book.specs.Book.{record_of};
-ghost use Rattle.redo_past.specs.Past.{is_generated as was_generated};
 ghost use Rattle.redo_notes.specs.Notes.{do_file_of as file_of_rule, is_ruleless as has_no_rule, is_unmade as was_unmade};
 ghost use Rattle.redo_notes.specs.Notes.{has_record as is_recorded, shadowed as shadowed_in, shadowed_at as shadowed_by};
 ghost use Rattle.redo_notes.specs.Notes.{is_within as stands_within, shadowed_within as shadowed_in_places};
@@ -15,7 +14,7 @@ use crate::asked::asked_by;
 use crate::kinds::{Notes, Unbuilt};
 use redo_book::{Book, BookRecord};
 use redo_names::PathSet;
-use redo_past::Past;
+use redo_past::{Past, is_generated};
 use redo_path::Path;
 use redo_record::Outcome;
 use redo_report::{Report, Row};
@@ -179,16 +178,6 @@ fn unmade(alloc: Global, past: &Past, report: &Report) -> Result<Vec<Path>, Allo
         }
     }
     Ok(paths)
-}
-
-/// Whether the file at a record's target has the digest that the record has.
-fn is_generated(tree: &Tree, made: &BookRecord) -> bool
-    ensures { result ≡ was_generated tree.now (record_of made.now) }
-{
-    match (tree.content(&made.target), &made.state) {
-        (Some(content), Some(digest)) => content.digest() == *digest,
-        _ => false,
-    }
 }
 
 /// Whether a record's target has its generated file, and no rule.

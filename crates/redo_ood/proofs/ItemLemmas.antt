@@ -19,9 +19,9 @@ use Rattle.redo_skip.specs.Sources.{Sources}
 use Rattle.redo_skip.specs.Checks.{Check, Checks, has_state, same_state}
 use Rattle.redo_skip.specs.NewBook.{LastRun, check_by, checks_of, is_valid}
 use Rattle.redo_skip.proofs.NewBookLemmas.{are-checks, found-target}
-use Rattle.redo_past.specs.Past.{PastView, intact_record}
+use Rattle.redo_past.specs.Past.{PastView, intact_record, is_free}
 use Rattle.redo_step.specs.Limits.{LimitsView}
-use Rattle.redo_rules.specs.Build.{GivenView, checks_for, is_free, last_run_of, sources_for}
+use Rattle.redo_rules.specs.Build.{GivenView, checks_for, last_run_of, sources_for}
 use Rattle.redo_why.proofs.ListedLemmas.{check-altered, check-intact}
 use Rattle.redo_why.specs.Verdicts.{Verdicts, Drops, Unsure, holds_if, mark, mark_checked}
 use Rattle.redo_ood.specs.Listing.{run_over}

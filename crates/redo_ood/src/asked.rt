@@ -10,10 +10,9 @@ ghost use Rattle.redo_step.specs.Limits.{LimitsView};
 ghost use Rattle.redo_ood.specs.Listing.{AreAskedAbout, RestsOn, changed, run_over};
 ghost use Rattle.redo_ood.specs.inside.Resting.{IsGrown, changes_in};
 
-use crate::items::has_rule;
 use redo_book::BookEntry;
 use redo_names::PathSet;
-use redo_past::Past;
+use redo_past::{Past, has_rule};
 use redo_path::Path;
 use std::alloc::{AllocError, Global};
 

@@ -5,7 +5,6 @@ ghost use Rattle.redo_tree.specs.Tree.{file_at};
 ghost use Rattle.redo_which.specs.Candidates.{is_do_file};
 ghost use Rattle.redo_which.specs.Rule.{found_of, is_rule};
 ghost use Rattle.redo_book.specs.declared.book.BookEntry.TheVariants.{Change};
-ghost use Rattle.redo_rules.specs.Build.{is_free as is_free_in};
 ghost use Rattle.redo_ood.specs.inside.Items.{item_if};
 ghost use Rattle.redo_ood.specs.inside.Rows.{AreItems, AreRows, InRun, IsItem};
 
@@ -13,31 +12,9 @@ use crate::verdicts::{Row, RowItem};
 use redo_book::{BookEntry, BookRecord};
 use redo_digest::Digest;
 use redo_names::PathSet;
-use redo_past::{Past, has_state};
+use redo_past::{Past, has_rule, has_state, is_free};
 use redo_path::Path;
-use redo_tree::Tree;
-use redo_which::{Found, lookup};
 use std::alloc::{AllocError, Global};
-
-/// Whether a rule makes a path.
-pub(crate) fn has_rule(alloc: Global, sources: &Tree, path: &Path) -> Result<bool, AllocError>
-    ensures { IfOk result (λ ruled. ruled ≡ is_rule (found_of sources.now path.now)) }
-{
-    match lookup::find(alloc, sources, path)? {
-        Found::Rule(_) => Ok(true),
-        Found::Source | Found::Directory | Found::NoDirectory | Found::NoRule { .. } => Ok(false),
-    }
-}
-
-/// Whether nothing is at a path, and no rule makes anything there.
-fn is_free(alloc: Global, sources: &Tree, path: &Path) -> Result<bool, AllocError>
-    ensures { IfOk result (λ free. free ≡ is_free_in sources.now path.now) }
-{
-    match lookup::find(alloc, sources, path)? {
-        Found::Source | Found::Directory | Found::Rule(_) => Ok(false),
-        Found::NoDirectory | Found::NoRule { .. } => Ok(true),
-    }
-}
 
 fn holds_if(holds: bool) -> RowItem
     ensures { result ≡ item_if holds }

@@ -5,11 +5,11 @@ ghost use Rattle.redo_list.specs.Lists.{listed_view};
 ghost use Rattle.redo_ood.specs.Listing.{as_listed, state_by};
 ghost use Rattle.redo_ood.specs.inside.Lines.{listed_told, unrecorded_in, word_as};
 
-use crate::items::has_rule;
 use crate::whys::why_text;
 use crate::words::Word;
 use redo_list::{Listed, State};
 use redo_names::PathSet;
+use redo_past::has_rule;
 use redo_path::Path;
 use redo_tree::Tree;
 use std::alloc::{AllocError, Global};

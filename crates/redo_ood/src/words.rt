@@ -2,16 +2,13 @@
 
 ghost use Rattle.std.specs.Prelude.{◌≡◌, IfOk, length, not, option_copied, option_map};
 ghost use Rattle.redo_book.specs.Book.{record_of};
-ghost use Rattle.redo_book.specs.Intact.{is_intact};
-ghost use Rattle.redo_tree.specs.Tree.{file_at};
 ghost use Rattle.redo_ood.specs.inside.Lines.{drop_in, drops, holds, mark_as, mark_in, open_as, open_in};
 ghost use Rattle.redo_ood.specs.inside.Lines.{told_in, told_of, word_as};
 ghost use Rattle.redo_ood.specs.inside.Verdicts.{in_table};
 
-use crate::items::has_rule;
 use crate::verdicts::{RowItem, Verdict, verdict_at};
 use redo_book::{BookEntry, BookRecord};
-use redo_past::{Past, has_state};
+use redo_past::{Past, has_rule, is_intact};
 use std::alloc::{AllocError, Global};
 
 /// What is told of the target of a record.
@@ -135,13 +132,6 @@ fn word_by<'a>(
     }
 }
 
-/// Whether a record's target stands as the last run left it.
-fn stands(past: &Past, made: &BookRecord) -> bool
-    ensures { result ≡ is_intact (file_at past.now.tree) (record_of made.now) }
-{
-    has_state(past.tree().content(&made.target), &made.state)
-}
-
 /// What is told of the target of a record, by its items and the verdicts; `None` if nothing is.
 pub(crate) fn word_of<'a>(
     alloc: Global,
@@ -160,7 +150,7 @@ pub(crate) fn word_of<'a>(
     if !has_rule(alloc, past.sources(), &made.target)? {
         return Ok(Some(Word::Lost));
     }
-    if !stands(past, made) {
+    if !is_intact(past.tree(), made) {
         return Ok(Some(Word::Altered));
     }
     Ok(word_by(&made.entries, items, table))

@@ -1,11 +1,12 @@
 -- What a run takes over from the last one: a tree, the book in it, and the sources.
 use Rattle.std.specs.Prelude.{◌≡◌, Bool, false, ℕ, List, [], ◌∷◌, Option, Some, None, MatchOption, filter}
-use Rattle.std.specs.Prelude.{if◌then◌else◌, option_and_then}
+use Rattle.std.specs.Prelude.{◌&&◌, if◌then◌else◌, is_none, not, option_and_then}
 use Rattle.std.specs.Str.{bytes_eq}
 use Rattle.sha2.specs.Sha256.{sha256}
 use Rattle.redo_digest.specs.Digest.{State}
-use Rattle.redo_tree.specs.Tree.{Tree, file_at, without}
+use Rattle.redo_tree.specs.Tree.{Tree, file_at, node_at, without}
 use Rattle.redo_which.specs.Candidates.{book_path}
+use Rattle.redo_which.specs.Rule.{found_of, is_rule}
 use Rattle.redo_book.specs.Book.{IsRefused, IsText, Record, record_at, targets_of}
 use Rattle.redo_book.specs.Intact.{is_intact}
 use Rattle.redo_past.specs.declared.faults.PastFault.{PastFault}
@@ -36,9 +37,17 @@ abbrev pub intact_record : PastView → List ℕ → Option Record
 intact_record past target =
     option_and_then (λ r. if is_intact (file_at past.tree) r then Some r else None) (record_at past.book target)
 
--- the book is the one that the tree's text spells, or empty; the sources are the tree without what is set aside
+-- nothing is at the path, and no rule makes anything there
+abbrev pub is_free : Tree → List ℕ → Bool
+is_free sources p = is_none (node_at sources p) && not (is_rule (found_of sources p))
+
+-- the book that a file has the text of; without one it is empty
+abbrev pub IsBookOf : Option (List ℕ) → List Record → Type 0
+IsBookOf file book = MatchOption file (book ≡ []) (λ text. IsText text book)
+
+-- the book is that of the tree; the sources are the tree without what is set aside
 pub record IsPast (past : PastView) : Type 0 where
-  pub book : MatchOption (file_at past.tree book_path) (past.book ≡ []) (λ text. IsText text past.book)
+  pub book : IsBookOf (file_at past.tree book_path) past.book
   pub sources : past.sources ≡ without past.tree (set_aside past.tree past.book)
 
 -- the tree has a text of a book in which this is the first line at fault, unless memory ran out

@@ -6,7 +6,6 @@ ghost use Rattle.std.specs.Cmp.Lexicographic.{slice_cmp};
 ghost use Rattle.std.specs.List.{prefix_len};
 ghost use Rattle.std.specs.List.Sorted.{IsStrictlySortedBy};
 ghost use Rattle.std.specs.Ordering.{nat_cmp};
-ghost use Rattle.redo_which.specs.Rule.{found_of, is_rule};
 ghost use Rattle.redo_book.specs.Book.{IsRecord, Record, record_of, targets_of};
 ghost use Rattle.redo_past.specs.inside.Books.{AreItems, carries, has_built, is_before, is_behind};
 ghost use Rattle.redo_past.specs.inside.Books.{states_after};
@@ -17,10 +16,9 @@ use crate::items::BookItem;
 use crate::old_records::OldRecord;
 use crate::records::is_built;
 use crate::rows::Rows;
+use crate::standing::has_rule;
 use redo_book::BookRecord;
 use redo_path::Path;
-use redo_tree::Tree;
-use redo_which::{Found, lookup};
 use std::alloc::{AllocError, Global};
 
 /// Whether a path was built.
@@ -30,16 +28,6 @@ fn was_built(rows: &Rows<'_>, path: &Path) -> bool
     match rows.find(path) {
         Some(row) => is_built(&row.outcome),
         None => false,
-    }
-}
-
-/// Whether a path has a rule.
-fn has_rule(alloc: Global, sources: &Tree, path: &Path) -> Result<bool, AllocError>
-    ensures { IfOk result (λ rule. rule ≡ is_rule (found_of sources.now path.now)) }
-{
-    match lookup::find(alloc, sources, path)? {
-        Found::Rule(_) => Ok(true),
-        _ => Ok(false),
     }
 }
 

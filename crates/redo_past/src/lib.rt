@@ -8,8 +8,8 @@
 //!
 //! - `past`: the tree, the sources and the book, and what a run leaves; `named`: the files that the book has digests
 //!   of, and those that the new one will have; `hints`: where their records stand; `faults`: why a tree is refused;
-//! - `standing`: whether a path has the state that a book says; `rows`: the rows of a report, found by their paths;
-//!   `states`: the state of each path when a run ends;
+//! - `place`: the book's place in a tree; `standing`: whether a path is as a book says; `rows`: the rows of a report,
+//!   found by their paths; `states`: the state of each path when a run ends;
 //! - `old_records`: the records of the last run, with their texts; `items`: what the records of the new book are made
 //!   of, in order; `carrying`: those that are carried; `records`: the lines of each; `sizes`: how many bytes they have;
 //!   `new_book`: the whole text;
@@ -28,6 +28,7 @@ mod named;
 mod new_book;
 mod old_records;
 mod past;
+mod place;
 mod records;
 mod row_digests;
 mod rows;
@@ -38,5 +39,6 @@ mod states;
 
 pub use faults::PastFault;
 pub use past::Past;
+pub use place::{book_of, book_path, has_book};
 pub use run_report::RunReport;
-pub use standing::has_state;
+pub use standing::{has_rule, has_state, is_free, is_generated, is_intact};

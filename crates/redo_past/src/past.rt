@@ -7,8 +7,8 @@ ghost use Rattle.redo_report.specs.Reports.{AreAscending, row_paths};
 ghost use Rattle.redo_past.specs.NewBook.{IsResultOf};
 ghost use Rattle.std.specs.Arc.{arc_value};
 ghost use Rattle.redo_tree.specs.Tree.{file_at};
-ghost use Rattle.redo_book.specs.Book.{record_at, record_of, IsText};
-ghost use Rattle.redo_past.specs.Past.{HasNoPast, IsPast, RefusesBook, intact_record, is_generated as was_generated};
+ghost use Rattle.redo_book.specs.Book.{record_at, IsText};
+ghost use Rattle.redo_past.specs.Past.{HasNoPast, IsPast, RefusesBook, intact_record};
 ghost use Rattle.redo_past.specs.Past.{set_aside as aside_of};
 ghost use Rattle.redo_tree.specs.Tree.{without};
 ghost use Rattle.redo_past.specs.declared.faults.PastFault.TheVariants as faults;
@@ -19,15 +19,16 @@ use crate::books::put_file;
 use crate::hints::RecordHints;
 use crate::named::named_by;
 use crate::new_book::text_size;
+use crate::place::{book_in, book_path};
 use crate::row_digests::with_row_digests;
 use crate::rows::{Rows, numbers_of};
 use crate::run_report::{BookFile, RunReport};
-use redo_book::{Book, BookRecord, read_book};
+use crate::standing::is_generated;
+use redo_book::Book;
 use redo_path::Path;
 use redo_report::{Report, Row};
 use redo_tree::laws::no_other_file_is_taken_out;
 use redo_tree::{Content, Tree};
-use redo_which::BOOK;
 use std::alloc::{AllocError, Global};
 use std::marker::Model;
 use std::sync::Arc;
@@ -56,36 +57,6 @@ impl Model for Past {
 
     ghost invariant = { λ p.
         IsPast (record { tree = arc_value p.tree; sources = arc_value p.sources; book = arc_value p.book }) };
-}
-
-/// The path of the book.
-pub(crate) fn book_path(alloc: Global) -> Result<Path, AllocError>
-    ensures { IfOk result (λ path. path ≡ path_of_book) }
-{
-    Path::of_text(alloc, BOOK)
-}
-
-/// The book of a tree, if it has one.
-fn book_in(alloc: Global, tree: &Tree) -> Result<Option<Book>, PastFault>
-    ensures book { IfOk result (λ book. MatchOption (file_at tree.now path_of_book) (book ≡ None) (λ text.
-        MatchOption book ⊥ (IsText text))) }
-    ensures refused { IfErr result (λ fault. RefusesBook fault tree.now) }
-    ensures none { IfErr result (λ fault. HasNoPast fault tree.now) }
-{
-    match tree.file_by_text(BOOK) {
-        Some(text) => Ok(Some(read_book(alloc, text)?)),
-        None => Ok(None),
-    }
-}
-
-/// Whether the file at a record's target has the digest that the record has.
-fn is_generated(tree: &Tree, made: &BookRecord) -> bool
-    ensures { result ≡ was_generated tree.now (record_of made.now) }
-{
-    match (tree.content(&made.target), &made.state) {
-        (Some(content), Some(digest)) => content.digest() == *digest,
-        _ => false,
-    }
 }
 
 /// The paths of the files that aren't sources: the book's, and those of generated files.
@@ -201,8 +172,8 @@ impl Past {
         })
     }
 
-    /// The same past, shared.
-    fn share(&self) -> Result<Past, AllocError>
+    /// The same past again. All that it has is shared.
+    pub fn share(&self) -> Result<Past, AllocError>
         ensures { IfOk result (λ past. past ≡ self.now) }
     {
         let tree = Arc::try_clone(&self.tree)?;

@@ -11,7 +11,7 @@ use crate::Past;
 use crate::items::BookItem;
 use crate::named::{LONG, long_bytes, named_after};
 use crate::new_book::{new_text, parts_of, write_text};
-use crate::past::book_path;
+use crate::place::book_path;
 use crate::rows::Rows;
 use crate::states::States;
 use redo_bundle::{Broken, ByteOut, WriteFault, write_all};

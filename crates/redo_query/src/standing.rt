@@ -2,7 +2,6 @@
 
 ghost use Rattle.std.specs.Prelude.{◌≡◌, ◌&&◌, IfOk, is_some, map};
 ghost use Rattle.redo_book.specs.Book.{record_of};
-ghost use Rattle.redo_book.specs.Intact.{is_intact};
 ghost use Rattle.redo_names.specs.Paths.{is_among};
 ghost use Rattle.redo_tree.specs.Tree.{bytes_of, file_at, node_of};
 ghost use Rattle.redo_query.specs.Names.{named_sources, standing as standing_in, standing_targets};
@@ -10,17 +9,10 @@ ghost use Rattle.redo_query.specs.Names.{named_sources, standing as standing_in,
 use crate::named::named_by;
 use redo_book::BookRecord;
 use redo_names::PathSet;
-use redo_past::{Past, has_state};
+use redo_past::{Past, is_intact};
 use redo_path::Path;
 use redo_tree::Entry;
 use std::alloc::{AllocError, Global};
-
-/// Whether a record's target stands as the last run left it.
-fn stands(past: &Past, made: &BookRecord) -> bool
-    ensures { result ≡ is_intact (file_at past.now.tree) (record_of made.now) }
-{
-    has_state(past.tree().content(&made.target), &made.state)
-}
 
 /// The records whose targets stand as the last run left them.
 fn standing<'a>(alloc: Global, past: &'a Past) -> Result<Vec<&'a BookRecord>, AllocError>
@@ -28,7 +20,7 @@ fn standing<'a>(alloc: Global, past: &'a Past) -> Result<Vec<&'a BookRecord>, Al
 {
     let mut standing = Vec::new(alloc);
     for made in past.book().records() {
-        if stands(past, made) {
+        if is_intact(past.tree(), made) {
             standing.push(made)?;
         }
     }
@@ -41,7 +33,7 @@ pub(crate) fn targets<'a>(alloc: Global, past: &'a Past) -> Result<Vec<&'a Path>
 {
     let mut paths = Vec::new(alloc);
     for made in past.book().records() {
-        if stands(past, made) {
+        if is_intact(past.tree(), made) {
             paths.push(&made.target)?;
         }
     }

@@ -7,8 +7,8 @@ use Rattle.redo_tree.proofs.GrowLemmas.{added-free}
 use Rattle.redo_tree.proofs.WithoutLemmas.{IsTree-without, file_at-without, stood}
 use Rattle.redo_which.specs.Candidates.{book_path, journal_path}
 use Rattle.redo_book.specs.Book.{IsBook, IsText, IsTextOrRefused, Record, book_lines, text_of}
-use Rattle.redo_past.specs.Past.{PastView, set_aside}
-use Rattle.redo_mend.specs.Mended.{IsBookOf, IsNoBook, IsRecoveredTree, MendsTo}
+use Rattle.redo_past.specs.Past.{IsBookOf, PastView, set_aside}
+use Rattle.redo_mend.specs.Mended.{IsNoBook, IsRecoveredTree, MendsTo}
 use Rattle.redo_mend.proofs.MendLemmas.{is-mended, own_of}
 use Rattle.redo_mend.proofs.OneLemmas.{NoFault}
 use Rattle.redo_mend.proofs.SaidLemmas.{is-recovered, recovered}

@@ -20,7 +20,8 @@ use Rattle.redo_book.specs.Book.{IsBook, IsText, Record, book_lines, text_of}
 use Rattle.redo_past.proofs.ItemLemmas.{IsItem, contained-item, item-contained}
 use Rattle.redo_past.proofs.OrderLemmas.{same_path}
 use Rattle.redo_dir.specs.Own.{is_own, is_temporary}
-use Rattle.redo_mend.specs.Mended.{IsBookOf, IsMended, IsRecoveredTree, MendsTo, book_to_put, is_taken_out, own_files}
+use Rattle.redo_past.specs.Past.{IsBookOf}
+use Rattle.redo_mend.specs.Mended.{IsMended, IsRecoveredTree, MendsTo, book_to_put, is_taken_out, own_files}
 use Rattle.redo_mend.proofs.MendLemmas.{no-dir, same-node}
 use Rattle.redo_mend.proofs.OwnLemmas.{among-append, among-filter, book-other, file-among, journal-other}
 use Rattle.redo_recover.specs.Steps.{IsFound, IsOfOthers, MayHold, TellsOfOthers, after_steps, is_free, named_by}

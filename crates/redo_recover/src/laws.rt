@@ -7,7 +7,7 @@ ghost use Rattle.redo_tree.specs.Tree.{Directory, IsTree, Tree, file_at, node_at
 ghost use Rattle.redo_which.specs.Candidates.{book_path, journal_path};
 ghost use Rattle.redo_book.specs.Book.{IsBook, IsText, Record, record_at};
 ghost use Rattle.redo_skip.specs.NewBook.{AreTrue};
-ghost use Rattle.redo_past.specs.Past.{IsPast, PastView};
+ghost use Rattle.redo_past.specs.Past.{IsBookOf, IsPast, PastView};
 ghost use Rattle.redo_report.specs.declared.report.Report.{Report};
 ghost use Rattle.redo_rules.specs.Build.{GivenView};
 ghost use Rattle.redo_rules.specs.Results.{IsResult};
@@ -15,7 +15,7 @@ ghost use Rattle.redo_rules.specs.TreeSources.{AreTrueOfTrees, HasHonestBook, Is
 ghost use Rattle.redo_dir.specs.Stored.{Journals, Step, puts_in};
 ghost use Rattle.redo_dir.specs.Storing.{steps_to_store};
 ghost use Rattle.redo_dir.specs.Own.{is_own, is_temporary};
-ghost use Rattle.redo_mend.specs.Mended.{IsBookOf, IsNoBook, MendsTo};
+ghost use Rattle.redo_mend.specs.Mended.{IsNoBook, MendsTo};
 ghost use Rattle.redo_mend.specs.Recovered.{IsRecovered, recovered_at};
 ghost use Rattle.redo_recover.specs.Broken.{AreHonestWhereSaid, BreakOff, GoesOn, IsBrokenOff, IsStart};
 ghost use Rattle.redo_recover.specs.Broken.{MayStore, journal_of};

@@ -34,7 +34,8 @@ use Rattle.redo_skip.specs.Checks.{built, is_asked, told}
 use Rattle.redo_skip.specs.Sources.{File, Sources, without_book}
 use Rattle.redo_skip.specs.Truth.{Agrees, AllAgree, IsAlike}
 use Rattle.redo_rules.specs.inside.Worlds.{IsFit, progress_in, world_of}
-use Rattle.redo_rules.specs.Build.{is_free, sources_by, sources_of}
+use Rattle.redo_past.specs.Past.{is_free}
+use Rattle.redo_rules.specs.Build.{sources_by, sources_of}
 use Rattle.redo_rules.proofs.LawfulTreeLemmas.{fit_found}
 
 -- Entries

@@ -1,11 +1,11 @@
 -- The rules of a build: how far each target comes with given answers, by its sources, the search for rules, and the
 -- grammar and meaning of scripts; and what the book of the last run lets it keep.
-use Rattle.std.specs.Prelude.{ℕ, Bool, true, ◌&&◌, not, List, [], is_some, is_none, unwrap_or}
+use Rattle.std.specs.Prelude.{ℕ, true, List, [], is_some, unwrap_or}
 use Rattle.redo_script.specs.Texts.{script_in}
 use Rattle.redo_record.specs.declared.deps.DepKind.TheVariants.{Create}
 use Rattle.redo_record.specs.declared.outcome.Outcome.TheVariants.{Failed, Source as Is_source}
 use Rattle.redo_record.specs.declared.outcome.Why.TheVariants as why
-use Rattle.redo_tree.specs.Tree.{Tree, file_at, node_at}
+use Rattle.redo_tree.specs.Tree.{Tree, file_at}
 use Rattle.redo_which.specs.Candidates.{is_do_file}
 use Rattle.redo_which.specs.Rule.{Found, Source, Directory, NoDirectory, NoRule, Rule, found_of}
 use Rattle.redo_record.specs.Entries.{with_entries, search_deps}
@@ -16,7 +16,7 @@ use Rattle.redo_build.specs.Rules.{Ask, Rules}
 use Rattle.redo_skip.specs.Checks.{Checks, with_book}
 use Rattle.redo_skip.specs.NewBook.{LastRun, checks_of}
 use Rattle.redo_skip.specs.Sources.{Sources}
-use Rattle.redo_past.specs.Past.{PastView}
+use Rattle.redo_past.specs.Past.{PastView, is_free}
 use Rattle.redo_step.specs.Limits.{LimitsView}
 
 -- how far a target comes for which the search finds this: in a tree, with what the search finds there for each path,
@@ -53,10 +53,6 @@ rules_by tree file_bytes = record {
   begins = λ target ask. true;
   recorded = λ target ask. (progress_of tree file_bytes target ask).deps;
 }
-
--- nothing is at the path, and no rule makes anything there
-abbrev pub is_free : Tree → List ℕ → Bool
-is_free tree p = is_none (node_at tree p) && not (is_rule (found_of tree p))
 
 -- a tree of sources, as a build with a book sees it
 abbrev pub sources_by : Tree → ℕ → Sources

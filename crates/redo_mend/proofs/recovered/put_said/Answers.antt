@@ -7,7 +7,7 @@ use Rattle.redo_mend.specs.Recovered.{said_at}
 use Rattle.redo_mend.specs.inside.Found.{found_at}
 use Rattle.redo_mend.proofs.FoundLemmas.{seen, seen-insert, step}
 use Rattle.redo_mend.proofs.recovered.put_said.Goals as goal
-use Rattle.redo_mend.proofs.recovered.put_said.Goals.{then-is_as_said+in_ok-insert, else-is_as_said}
+use Rattle.redo_mend.proofs.recovered.put_said.Goals.{then-is_intact+in_ok-insert, else-is_intact}
 
 pub loop-made-preserved : goal.loop-made-preserved
 loop-made-preserved c =
@@ -22,12 +22,12 @@ loop-made-preserved c =
     let all = λ (p : List ℕ). option_or (said_at tree (map record_of items) p) (found_at (seen c.args.found.now.entries) p) in
     let book : IsBook (record_of x ∷ rest) = subst (λ (l : List BookRecord). IsBook (map record_of l)) split c.loop-made.invariant.left in
     let was = subst (λ (l : List BookRecord). (p : List ℕ) → option_or (said_at tree (map record_of l) p) (found_at es p) ≡ all p) split c.loop-made.invariant.said in
-    elim c.if-is_as_said.branch [
-      | then-is_as_said+in_ok-insert w ↦
+    elim c.if-is_intact.branch [
+      | then-is_intact+in_ok-insert w ↦
           let put = ap (λ m. seen m.entries) w.found-is ∙ ap seen w.in_ok-insert.ensures.entries ∙ seen-insert c.loop-made.found.entries _ _ in
-          let next = step tree (record_of x) rest es _ _ all book c.loop-made.invariant.found (sym c.is_as_said.ensures ∙ w.if-is_as_said.true) put was in
+          let next = step tree (record_of x) rest es _ _ all book c.loop-made.invariant.found (sym c.is_intact.ensures ∙ w.if-is_intact.true) put was in
           record { found = next.0; left = next.1.0; said = next.1.1 }
-      | else-is_as_said w ↦
-          let next = step tree (record_of x) rest es _ _ all book c.loop-made.invariant.found (sym c.is_as_said.ensures ∙ w.if-is_as_said.false) (ap (λ m. seen m.entries) w.found-is) was in
+      | else-is_intact w ↦
+          let next = step tree (record_of x) rest es _ _ all book c.loop-made.invariant.found (sym c.is_intact.ensures ∙ w.if-is_intact.false) (ap (λ m. seen m.entries) w.found-is) was in
           record { found = next.0; left = next.1.0; said = next.1.1 }
     ]
