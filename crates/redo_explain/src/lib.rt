@@ -8,12 +8,10 @@
 //! on redo_path and redo_names for paths.
 //!
 //! - `begun`: the begun scripts with their reasons; `text`: the same in words;
-//! - `standing`: whether recorded entries stand; `outcomes`: what a report tells of a path;
-//! - [`laws`]: what a reason means.
+//! - `standing`: whether recorded entries stand; `outcomes`: what a report tells of a path.
 #![tactic(auto)]
 
 mod begun;
-pub mod laws;
 mod outcomes;
 mod standing;
 mod text;

@@ -1,6 +1,5 @@
 pub mod AskedLemmas
 pub mod ForeseenLemmas
-pub mod GoneLemmas
 pub mod HonestListLemmas
 pub mod ItemLemmas
 pub mod ListLemmas

@@ -2,11 +2,9 @@
 
 ghost use Rattle.std.specs.Prelude.{◌≡◌, ◌⊎◌, ℕ, ◌≤◌, true, false, List, [], Some, None, length};
 ghost use Rattle.redo_names.specs.Paths.{IsAmong};
-ghost use Rattle.redo_tree.specs.Tree.{IsTree, file_at};
-ghost use Rattle.redo_which.specs.Rule.{found_of, is_rule};
+ghost use Rattle.redo_tree.specs.Tree.{file_at};
 ghost use Rattle.redo_book.specs.Book.{Record, record_at};
 ghost use Rattle.redo_book.specs.Intact.{is_intact};
-ghost use Rattle.redo_past.specs.Past.{IsPast, PastView};
 ghost use Rattle.redo_build.specs.Outcomes.{needed_at};
 ghost use Rattle.redo_build.specs.Rules.{AreLawful};
 ghost use Rattle.redo_skip.specs.NewBook.{IsGood, LastRun};
@@ -22,7 +20,6 @@ ghost use Rattle.redo_ood.specs.Foreseen.{IsFirstAsked, IsHonestGiven, IsListed,
 ghost use Rattle.redo_ood.specs.Foreseen.{is_open, is_ring, is_unknown};
 ghost use Rattle.redo_ood.specs.Listing.{IsList, IsRingOf, RestsOn, word_with};
 
-use redo_tree::laws::no_other_file_is_taken_out;
 use redo_why::laws::verdicts_tell_of_this_run;
 
 /// Without a request a list tells of every run: what it says of a record's target is what redo_why lists, so the laws of
@@ -113,12 +110,3 @@ pub fn a_ring_waits_for_a_ring()
     ensures { (s : Sources) (last : LastRun) (request : List (List ℕ)) (r : Record) →
         word_with s last request r ≡ Some Ring → IsRingOf s last request r }
 {}
-
-/// A target that is told to have lost its file had one, and has none any more.
-pub fn what_is_altered_has_lost_its_file()
-    ensures { (past : PastView) (r : Record) → IsTree past.tree → IsPast past → record_at past.book r.target ≡ Some r →
-        is_rule (found_of past.sources r.target) ≡ true → is_intact (file_at past.tree) r ≡ false →
-        (file_at past.tree r.target ≡ None) × ((digest : List ℕ) × (r.state ≡ Some digest)) }
-{
-    no_other_file_is_taken_out();
-}

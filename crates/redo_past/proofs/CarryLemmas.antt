@@ -196,7 +196,7 @@ Without past =
 
 module _ (past : PastView) (rows : List Row) (r : Record) where
   -- the file of a target with a rule is one that the last run made
-  left-file : IsPast past → IsStrictlySortedBy (slice_cmp nat_cmp) (targets_of past.book) → Without past → ((tree : Tree) → is_rule (found_of tree book_path) ≡ false) → IsItem past.book r → is_rule (found_of past.sources r.target) ≡ true → IsLeft past.tree r
+  pub left-file : IsPast past → IsStrictlySortedBy (slice_cmp nat_cmp) (targets_of past.book) → Without past → ((tree : Tree) → is_rule (found_of tree book_path) ≡ false) → IsItem past.book r → is_rule (found_of past.sources r.target) ≡ true → IsLeft past.tree r
   left-file is sorted law no-rule known rule =
       let none : file_at past.sources r.target ≡ None = ap (option_and_then bytes_of) (rule-absent past.sources r.target rule) in
       let cut : cond (is_among (set_aside past.tree past.book) r.target) None (file_at past.tree r.target) ≡ None =

@@ -6,6 +6,7 @@ pub mod ItemListLemmas
 pub mod JoinLemmas
 pub mod LawLemmas
 pub mod LoopLemmas
+pub mod LostLemmas
 pub mod NewBookLemmas
 pub mod NotedLemmas
 pub mod OldLemmas

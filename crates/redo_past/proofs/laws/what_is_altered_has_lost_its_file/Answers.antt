@@ -1,6 +1,6 @@
 use Rattle.redo_past.specs.Past.{set_aside}
-use Rattle.redo_ood.proofs.GoneLemmas.{lost-file}
-use Rattle.redo_ood.proofs.laws.what_is_altered_has_lost_its_file.Goals as goal
+use Rattle.redo_past.proofs.LostLemmas.{lost-file}
+use Rattle.redo_past.proofs.laws.what_is_altered_has_lost_its_file.Goals as goal
 
 pub returns : goal.returns
 returns c = λ past r tree is at rule altered.
