@@ -5,26 +5,23 @@ ghost use Rattle.std.specs.Prelude.{take};
 ghost use Rattle.redo_record.specs.declared.deps.DepKind.TheVariants as kinds;
 ghost use Rattle.redo_record.specs.declared.outcome.Outcome.TheVariants as outcomes;
 ghost use Rattle.redo_record.specs.Entries.{with_all, with_entry};
-ghost use Rattle.redo_book.specs.declared.book.BookEntry.TheVariants.{Change};
 ghost use Rattle.redo_book.specs.Book.{IsRecord, record_of as record_in};
 ghost use Rattle.redo_build.specs.Rules.{Ask};
 ghost use Rattle.redo_build.specs.Schedule.{nothing_known};
-ghost use Rattle.redo_skip.specs.Checks.{has_state as is_of_state, shown as shown_as, standing};
-ghost use Rattle.redo_skip.specs.Checks.{stands_if as stood_if, told};
+ghost use Rattle.redo_skip.specs.Checks.{shown as shown_as};
 ghost use Rattle.redo_tree.specs.Tree.{file_at};
-ghost use Rattle.redo_rules.specs.Build.{checks_for, is_free as is_free_in, rules_for, sources_for};
+ghost use Rattle.redo_rules.specs.Build.{checks_for, rules_for, sources_for};
 ghost use Rattle.redo_core.specs.inside.Checking.{FallsBehind, IsBegunBehind, IsCheckedBy, IsDueCheck, IsInCheck};
 ghost use Rattle.redo_core.specs.inside.Checking.{IsWaitingCheck, IsWalkedTo, asks_next, entries_in, seen_entries};
-ghost use Rattle.redo_core.specs.inside.Checking.{standing_of, state_of_entry};
+ghost use Rattle.redo_core.specs.inside.Checking.{state_of_entry};
 
 use crate::given::Given;
 use redo_book::{BookEntry, BookRecord};
 use redo_digest::Digest;
-use redo_past::has_state;
 use redo_path::Path;
 use redo_record::{Dep, DepKind, Deps, Outcome, Record};
-use redo_tree::{Content, Tree};
-use redo_which::{Found, lookup};
+use redo_rules::{Alone, is_as_recorded, standing_alone};
+use redo_tree::Content;
 use std::alloc::{AllocError, Global};
 
 /// The check of a target, as far as it has come. The next entry asks for a path or waits for its answer, or there is
@@ -37,57 +34,6 @@ pub struct Check {
     pub stood: usize,
     /// The paths that it has asked for, each once.
     pub asked: Deps,
-}
-
-/// Whether an entry stands, judged without any answer.
-#[derive(Clone, Copy)]
-pub enum Alone {
-    Stands,
-    /// It depends on the answer to its path.
-    Asks,
-    Falls,
-}
-
-/// Stands if this holds, else falls.
-fn stands_if(holds: bool) -> Alone
-    ensures { standing_of result ≡ stood_if holds }
-{
-    if holds { Alone::Stands } else { Alone::Falls }
-}
-
-/// Whether nothing is at a path, and no rule makes anything there.
-fn is_free(alloc: Global, sources: &Tree, path: &Path) -> Result<bool, AllocError>
-    ensures { IfOk result (λ free. free ≡ is_free_in sources.now path.now) }
-{
-    match lookup::find(alloc, sources, path)? {
-        Found::Source | Found::Directory | Found::Rule(_) => Ok(false),
-        Found::NoDirectory | Found::NoRule { .. } => Ok(true),
-    }
-}
-
-/// Whether a `change` stands, judged without any answer. A source or a .do file never has one. The digest of a source
-/// was made when the book was read.
-fn change_alone(given: &Given, state: &Option<Digest>, path: &Path) -> Alone
-    ensures { standing_of result ≡ standing (sources_for given.now) nothing_known (Change state.now path.now) }
-{
-    if let Some(content) = given.sources().content(path) {
-        return stands_if(has_state(Some(content), state));
-    }
-    if path.name().ends_with(b".do") {
-        return Alone::Falls;
-    }
-    Alone::Asks
-}
-
-/// Whether an entry stands, judged without any answer.
-fn standing_alone(alloc: Global, given: &Given, entry: &BookEntry) -> Result<Alone, AllocError>
-    ensures { IfOk result (λ v. standing_of v ≡ standing (sources_for given.now) nothing_known entry.now) }
-{
-    match entry {
-        BookEntry::Change(state, path) => Ok(change_alone(given, state, path)),
-        BookEntry::Create(path) => Ok(stands_if(is_free(alloc, given.sources(), path)?)),
-        BookEntry::Always => Ok(Alone::Falls),
-    }
 }
 
 /// Passes over the entries that stand without any answer, from this index on. Returns the index of the first that asks
@@ -103,24 +49,13 @@ fn walk(
     ensures falls { IfOk result (λ r. IfNone r (FallsBehind (sources_for given.now) entries.now from)) }
 {
     for at in from..entries.len() {
-        match standing_alone(alloc, given, &entries[at])? {
+        match standing_alone(alloc, given.sources(), &entries[at])? {
             Alone::Stands => {}
             Alone::Asks => return Ok(Some(at)),
             Alone::Falls => return Ok(None),
         }
     }
     Ok(Some(entries.len()))
-}
-
-/// Whether an answer tells of a file, or of no file, with this state.
-fn is_as_recorded(outcome: &Outcome, state: &Option<Digest>) -> bool
-    ensures { result ≡ is_of_state state.now (told (Some outcome.now)) }
-{
-    match outcome {
-        Outcome::Source => state.is_none(),
-        Outcome::Built(content) => has_state(content.as_ref(), state),
-        Outcome::Failed(_) | Outcome::Cyclic => false,
-    }
 }
 
 /// The number of the record of a target with a rule, if it is in check: it isn't requested, and is as the last run left

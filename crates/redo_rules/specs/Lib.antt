@@ -1,4 +1,5 @@
 pub mod Build
 pub mod Results
+pub mod Standing
 pub mod TreeSources
 pub mod inside

@@ -11,20 +11,12 @@ use Rattle.redo_book.specs.declared.book.BookEntry.TheVariants.{Change}
 use Rattle.redo_book.specs.Book.{Record, same_entry}
 use Rattle.redo_build.specs.Rules.{Ask, Rules, operands}
 use Rattle.redo_build.specs.Schedule.{nothing_known}
-use Rattle.redo_skip.specs.Checks.{Standing, asking, falls, is_asked, lacks, shown, standing, stands}
+use Rattle.redo_skip.specs.Checks.{asking, falls, is_asked, lacks, shown, standing}
 use Rattle.redo_skip.specs.NewBook.{check_by}
 use Rattle.redo_skip.specs.Sources.{Sources}
 use Rattle.redo_skip.specs.inside.Stood.{HaveStood, StandAlone, asked_by}
 use Rattle.redo_rules.specs.Build.{GivenView, rules_for, sources_for, checks_for, last_run_of}
 use Rattle.redo_core.specs.declared.check.Check.{Check}
-use Rattle.redo_core.specs.declared.check.Alone.{Alone}
-use Rattle.redo_core.specs.declared.check.Alone.TheVariants.{Stands, Asks, Falls}
-
--- whether an entry stands, judged without any answer
-abbrev pub standing_of : Alone → Standing
-standing_of Stands = stands
-standing_of Asks = lacks
-standing_of Falls = falls
 
 -- the entries from one index up to another stand without any answer; the next one asks for a path, or there is none
 pub record IsWalkedTo (s : Sources) (es : List BookEntry) (from to : ℕ) : Type 0 where
