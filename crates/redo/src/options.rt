@@ -14,7 +14,7 @@ use crate::version::VERSION;
 use clap::builder::ValueParser;
 use clap::{Arg, ArgAction, Command, value_parser};
 use redo_path::{Path, PathFault, resolve};
-use redo_run::Options;
+use redo_run::{Options, requested as requested_of};
 use redo_step::Limits;
 use std::alloc::{AllocError, AllocFailed, Global};
 use std::io;
@@ -441,11 +441,7 @@ fn named(alloc: Global, line: &Line<'_>, below: &Path) -> Result<Vec<Path>, Refu
 
 /// The targets that are requested: `all`, where none is named.
 fn requested(alloc: Global, line: &Line<'_>, below: &Path) -> Result<Vec<Path>, Refusal> {
-    let mut paths = named(alloc, line, below)?;
-    if paths.is_empty() {
-        paths.push(target(alloc, &Path::root(), "all")?)?;
-    }
-    Ok(paths)
+    Ok(requested_of(alloc, &named(alloc, line, below)?)?)
 }
 
 /// What leads from where the user is to the top, with a slash behind it; nothing if that is where the user is.

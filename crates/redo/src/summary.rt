@@ -1,25 +1,17 @@
 //! What is told of a build's files.
 
-use redo_path::Path;
 use redo_report::Report;
-use redo_tree::{Content, Tree};
+use redo_run::is_unchanged;
+use redo_tree::Tree;
 use redo_which::BOOK;
 use std::fmt;
 use std::fmt::{Display, Formatter};
-
-/// Whether the tree has a file as it came out.
-fn stands(tree: &Tree, file: &(Path, Content)) -> bool {
-    match tree.content(&file.0) {
-        Some(content) => *content == file.1,
-        None => false,
-    }
-}
 
 /// How many files came out otherwise than the tree has them, the book aside.
 pub(crate) fn written(report: &Report, tree: &Tree) -> u64 {
     let mut count = 0u64;
     for file in &report.files {
-        if file.0.text() != BOOK && !stands(tree, file) {
+        if file.0.text() != BOOK && !is_unchanged(tree, file) {
             count = count.saturating_add(1);
         }
     }

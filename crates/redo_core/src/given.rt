@@ -63,7 +63,7 @@ impl Given {
             record { past = past; request = request.now; limits = limits }) }
     {
         let requested = PathSet::of_paths(alloc, request)?;
-        let request = copied(alloc, request)?;
+        let request = request.to_vec(alloc)?;
         let readings = Cells::new(alloc, past.sources().len())?;
         let given = Given {
             past,
@@ -172,15 +172,4 @@ impl Given {
         a_tree_has_one_past();
         self.is(other.past.tree(), &other.request, other.limits)
     }
-}
-
-/// Copies of some paths.
-fn copied(alloc: Global, paths: &[Path]) -> Result<Vec<Path>, AllocError>
-    ensures { IfOk result (λ copies. copies.items ≡ paths.now) }
-{
-    let mut copies = Vec::new(alloc);
-    for path in paths {
-        copies.push(path.clone()?)?;
-    }
-    Ok(copies)
 }

@@ -56,5 +56,7 @@ pub use of_build::{BuildBrand, JobOf};
 pub use one::build_one;
 pub use options::Options;
 pub use picks::{Pick, drive};
+pub use request::{DEFAULT_TARGET, requested};
 pub use run_fault::RunFault;
+pub use storing::is_unchanged;
 pub use workers::build_many;

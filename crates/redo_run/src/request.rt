@@ -7,33 +7,25 @@ use redo_path::{Path, resolve};
 use std::alloc::{AllocError, Global};
 
 /// The target that is built if none is named.
+pub const DEFAULT_TARGET: &[u8] = b"all";
+
+/// Its path.
 fn default_target(alloc: Global) -> Result<Path, AllocError>
     ensures { IfOk result (λ path. path ≡ codes "all") }
 {
-    match resolve(alloc, &Path::root(), b"all") {
+    match resolve(alloc, &Path::root(), DEFAULT_TARGET) {
         Ok(path) => Ok(path),
         Err(_) => Err(AllocError),
     }
 }
 
-/// The same paths.
-fn copied(alloc: Global, paths: &[Path]) -> Result<Vec<Path>, AllocError>
-    ensures { IfOk result (λ copies. copies.items ≡ paths.now) }
-{
-    let mut copies = Vec::new(alloc);
-    for path in paths {
-        copies.push(path.clone()?)?;
-    }
-    Ok(copies)
-}
-
 /// The targets that are named, or `all` if there are none.
 #[tactic(auto, using(crate::proofs::ToldLemmas::named_targets))]
-pub(crate) fn requested(alloc: Global, targets: &[Path]) -> Result<Vec<Path>, AllocError>
+pub fn requested(alloc: Global, targets: &[Path]) -> Result<Vec<Path>, AllocError>
     ensures { IfOk result (λ request. request.items ≡ request_of targets.now) }
 {
     if targets.is_empty() {
         return Ok(vec![in alloc; default_target(alloc)?]?);
     }
-    copied(alloc, targets)
+    targets.to_vec(alloc)
 }

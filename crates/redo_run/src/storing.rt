@@ -22,7 +22,7 @@ fn is_book(path: &Path) -> bool
 }
 
 /// Whether the tree has the file as it is. The bytes of one that was kept are those of the tree's, not a copy.
-fn is_unchanged(tree: &Tree, file: &(Path, Content)) -> bool
+pub fn is_unchanged(tree: &Tree, file: &(Path, Content)) -> bool
     ensures { result ≡ stands_in tree.now file.now }
 {
     match tree.content(&file.0) {
