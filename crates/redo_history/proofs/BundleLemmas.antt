@@ -1,6 +1,5 @@
 -- Two runs over one bundle write the same.
 use Rattle.std.proofs.Common.{◌≡◌, ◌∙◌, ◌↔◌, ◌++◌, ℕ, List, Some, ap, refl, subst, sym, true}
-use Rattle.std.specs.Arc.{arc_value}
 use Rattle.redo_bundle.specs.Bundle.{IsBundle}
 use Rattle.redo_report.specs.declared.report.Report.{Report}
 use Rattle.redo_rules.specs.Build.{GivenView}
@@ -34,24 +33,24 @@ module _ (one_tree : OneTree) (one_past : OnePast) (one_report : OneReport) (one
     (targets : other.targets.items ≡ one.targets.items) (limits : other.limits ≡ one.limits)
     (text before after again : List ℕ) (run also : BundleRun) (h : Reports one text (Some before) (Some after) run)
     (k : Reports other text (Some before) (Some again) also) where
-  given-there : IsGiven (arc_value run.tree) (request_in one) one.limits k.given
+  given-there : IsGiven run.past.tree (request_in one) one.limits k.given
   given-there =
-      let trees : arc_value also.tree ≡ arc_value run.tree =
-      one_tree text (arc_value also.tree) (arc_value run.tree) k.bundle h.bundle in
+      let trees : also.past.tree ≡ run.past.tree =
+      one_tree text also.past.tree run.past.tree k.bundle h.bundle in
       subst (λ (t : Tree). IsGiven t (request_in one) one.limits k.given) trees
-      (subst (λ (ps : List (List ℕ)). IsGiven (arc_value also.tree) (request_of ps) one.limits k.given) targets
-      (subst (λ (l : LimitsView). IsGiven (arc_value also.tree) (request_in other) l k.given) limits k.is_given))
+      (subst (λ (ps : List (List ℕ)). IsGiven also.past.tree (request_of ps) one.limits k.given) targets
+      (subst (λ (l : LimitsView). IsGiven also.past.tree (request_in other) l k.given) limits k.is_given))
 
   pub same-bytes : after ≡ again
   same-bytes =
       let same : AreSameReports run.report also.report =
-      one_report (arc_value run.tree) (request_in one) one.limits run.report also.report (h.given, h.is_given, h.is)
+      one_report run.past.tree (request_in one) one.limits run.report also.report (h.given, h.is_given, h.is)
       (k.given, given-there, k.is) in
       h.written ∙ ap (λ out. before ++ out) (same-text run.report also.report same true) ∙ sym k.written
 
   pub same-end : run.exit ≡ also.exit
   same-end =
       let same : k.given ≡ h.given =
-      one-given one_past (arc_value run.tree) (request_in one) one.limits k.given h.given given-there h.is_given in
+      one-given one_past run.past.tree (request_in one) one.limits k.given h.given given-there h.is_given in
       let good : IsExitOf h.given also.exit = subst (λ (g : GivenView). IsExitOf g also.exit) same k.good in
       same-exit _ run.exit also.exit h.good good

@@ -2,9 +2,8 @@
 use Rattle.std.proofs.Common.{rules, ◌≡◌, ◌↔◌, ◌∙◌, [], ◌∷◌, length, List, ℕ, Bool, Option, Some, None, IsTrue, is_some}
 use Rattle.std.proofs.Common.{option_map, true, sym, subst, refl}
 use Rattle.std.specs.Prelude.{IfSome, IsSome, Err, Result}
-use Rattle.std.specs.Arc.{arc_value}
 use Rattle.std.specs.Io.KnownBytes.{Appends}
-use Rattle.redo_rules.specs.Results.{IsGiven, IsRefused, IsResultOn, NeedsTooMany}
+use Rattle.redo_rules.specs.Results.{IsGiven, IsOfTree, IsRefused, IsResultOn, NeedsTooMany}
 use Rattle.redo_report.specs.ReportText.{report_text}
 use Rattle.redo_report.specs.declared.report.Report.{Report}
 use Rattle.redo_bundle.specs.Bundle.{IsBundle, Writes}
@@ -83,18 +82,19 @@ module _ (options : Options) (tree : Tree) (request : List (List ℕ)) (named : 
   explains_write write.Memory (Some text) old new report bundle is h = tt
 
   -- the whole report was written
-  pub reports : (left old new : Option (List ℕ)) (run : BundleRun) → arc_value run.tree ≡ tree →
+  pub reports : (left old new : Option (List ℕ)) (run : BundleRun) → IsOfTree tree run.past →
       IfSome left (λ text. IsBundle text tree) → (is : IsResultOn tree request options.limits run.report) →
       IsSoundOn tree request options.limits run.report →
       Appends old new (report_text run.report true) →
       IsExitOf is.0 run.exit →
       IfSome left (λ text. Reports options text old new run)
-  reports None old new run same bundle is sound written good = tt
-  reports (Some text) old new run same bundle is sound written good =
+  reports None old new run of bundle is sound written good = tt
+  reports (Some text) old new run of bundle is sound written good =
       let M : Tree → Type 0 = λ t. IsGiven t (request_in options) options.limits is.0 in record {
-        bundle = subst (λ t. IsBundle text t) (sym same) bundle;
+        past = of.is_past;
+        bundle = subst (λ t. IsBundle text t) (sym of.of_tree) bundle;
         given = is.0;
-        is_given = subst M (sym same) (moved (λ ps. IsGiven tree ps options.limits is.0) is.1);
+        is_given = subst M (sym of.of_tree) (moved (λ ps. IsGiven tree ps options.limits is.0) is.1);
         is = is.2;
         sound = sound is.0 is.1;
         written = written;
@@ -104,6 +104,13 @@ module _ (options : Options) (tree : Tree) (request : List (List ℕ)) (named : 
   -- a tree needs too many targets
   pub too_many_in : NeedsTooMany tree request options.limits → IsUnsafeOn tree request options.limits → IsUnbuilt tree options dir.TooMany
   too_many_in many never = (moved (λ ps. NeedsTooMany tree ps options.limits) many, moved (λ ps. IsUnsafeOn tree ps options.limits) never)
+
+  -- a build over the tree's past that answers no report
+  pub unbuilt_by : (fault : RunFault) → ((n : ℕ) → fault ≡ build.Book n → ⊥) → (fault ≡ build.TooMany → NeedsTooMany tree request options.limits) →
+      (fault ≡ build.TooMany → IsUnsafeOn tree request options.limits) → IsUnbuilt tree options (of_run fault)
+  unbuilt_by (build.Book n) book many never = absurd (book n refl)
+  unbuilt_by build.TooMany book many never = too_many_in (many refl) (never refl)
+  unbuilt_by build.Memory book many never = tt
 
   -- a tree was built
   pub built : (report : Report) (exit : Exit) → (is : IsResultOn tree request options.limits report) →

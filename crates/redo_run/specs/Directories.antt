@@ -2,11 +2,10 @@
 -- answered when it was listed and looked at.
 use Rattle.std.specs.Prelude.{◌≡◌, ◌↔◌, ◌++◌, ◌⊎◌, ◌+◌, ◌<◌, ◌==◌, suc, Bool, true, false, IsTrue, IsSome, ℕ, List, Option, Result}
 use Rattle.std.specs.Prelude.{Ok, Err, None, if◌then◌else◌, length, take}
-use Rattle.std.specs.Arc.{arc_value}
 use Rattle.std.specs.Io.KnownBytes.{Appends}
 use Rattle.std.specs.declared.io.ErrorKind.{ErrorKind}
 use Rattle.redo_rules.specs.Build.{GivenView}
-use Rattle.redo_rules.specs.Results.{IsGiven, IsRefused, IsResult, NeedsTooMany as TreeNeedsTooMany}
+use Rattle.redo_rules.specs.Results.{IsGiven, IsOfTree, IsRefused, IsResult, NeedsTooMany as TreeNeedsTooMany}
 use Rattle.redo_report.specs.ReportText.{report_text}
 use Rattle.redo_report.specs.declared.report.Report.{Report}
 use Rattle.redo_tree.specs.Tree.{Node, Tree, file_at, without}
@@ -112,7 +111,7 @@ pub record ReportsTree (lists : List ℕ → List (Option (List ℕ)) → Type 0
   pub is_loaded : IsLoaded lists leads loaded run.passed
   pub mended : Tree
   pub mends : MendsTo loaded mended
-  pub tree : arc_value run.tree ≡ to_build options mended
+  pub past : IsOfTree (to_build options mended) run.past
   pub built : IsBuilt (to_build options mended) options run.report run.exit
   pub done : after ≡ before ++ steps_of loaded mended run.report
   pub written : Appends old new (report_text run.report false)
@@ -132,7 +131,7 @@ pub record PreviewsTree (lists : List ℕ → List (Option (List ℕ)) → Type 
   pub is_loaded : IsLoaded lists leads loaded run.passed
   pub mended : Tree
   pub mends : MendsTo loaded mended
-  pub tree : arc_value run.tree ≡ to_build options mended
+  pub past : IsOfTree (to_build options mended) run.past
   pub built : IsBuilt (to_build options mended) options run.report run.exit
   pub written : Appends old new (report_text run.report false)
 

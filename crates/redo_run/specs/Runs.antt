@@ -1,7 +1,6 @@
 -- What a run over a bundle leaves on its writer.
 use Rattle.std.specs.Prelude.{◌≡◌, ◌↔◌, ◌++◌, ◌∷◌, [], ℕ, Bool, true, IsTrue, IsSome, List, Option, Result, Ok, Err}
 use Rattle.std.specs.Prelude.{codes}
-use Rattle.std.specs.Arc.{arc_value}
 use Rattle.std.specs.Io.KnownBytes.{Appends}
 use Rattle.redo_rules.specs.Build.{GivenView}
 use Rattle.redo_rules.specs.Results.{IsGiven, IsRefused, IsResult, IsResultOn, NeedsTooMany as TreeNeedsTooMany}
@@ -10,6 +9,7 @@ use Rattle.redo_report.specs.declared.report.Report.{Report}
 use Rattle.redo_bundle.specs.Bundle.{IsBundle, Reads}
 use Rattle.redo_tree.specs.Tree.{Tree}
 use Rattle.redo_which.specs.Rule.{chosen_of}
+use Rattle.redo_past.specs.Past.{IsPast}
 use Rattle.redo_run.specs.declared.bundle.BundleRun.{BundleRun}
 use Rattle.redo_run.specs.declared.options.Options.{Options}
 use Rattle.redo_run.specs.declared.fault.RunIoFault.{RunIoFault}
@@ -30,11 +30,13 @@ request_in options = request_of options.targets.items
 abbrev pub IsReportFor : Options → Tree → Report → Type 0
 IsReportFor options tree report = IsResultOn tree (request_in options) options.limits report
 
--- the text is a bundle of the tree that was built, and the writer took the report of the build, and nothing else
+-- the text is a bundle of the tree that was built, with its past; and the writer took the report of the build, and nothing
+-- else
 pub record Reports (options : Options) (text : List ℕ) (old new : Option (List ℕ)) (run : BundleRun) : Type 0 where
-  pub bundle : IsBundle text (arc_value run.tree)
+  pub past : IsPast run.past
+  pub bundle : IsBundle text run.past.tree
   pub given : GivenView
-  pub is_given : IsGiven (arc_value run.tree) (request_in options) options.limits given
+  pub is_given : IsGiven run.past.tree (request_in options) options.limits given
   pub is : IsResult given run.report
   pub sound : IsSoundFor given run.report
   pub written : Appends old new (report_text run.report true)

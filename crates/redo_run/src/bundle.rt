@@ -7,15 +7,15 @@ ghost use Rattle.redo_run.specs.Runs.{Explains, ExplainsList, IsUntouched, Lists
 use crate::candidates::text_of_search;
 use crate::exit::exit_after;
 use crate::request::requested;
-use crate::workers::{build_over, past_of};
+use crate::workers::{past_of, report_over};
 use crate::{Cause, Exit, Host, Observer, Options, RunIoFault};
 use redo_bundle::{ByteIn, ByteOut, read_bundle_by_line, write_all};
-use redo_past::RunReport;
+use redo_past::{Past, RunReport};
 use redo_path::Path;
-use redo_tree::Tree;
 use redo_which::lookup::search;
 use std::alloc::Global;
-use std::sync::{Arc, Wait};
+use std::marker::Brand;
+use std::sync::Wait;
 use std::thread::Threads;
 
 /// What a run over a bundle came to.
@@ -23,8 +23,8 @@ use std::thread::Threads;
 pub struct BundleRun {
     /// Whether every requested path is a source or built.
     pub exit: Exit,
-    /// The tree that was built.
-    pub tree: Arc<Tree>,
+    /// The past of the tree that was built, which the run opened.
+    pub past: Past,
     /// The report, whose new book isn't text yet.
     pub report: RunReport,
 }
@@ -55,13 +55,18 @@ pub fn run_bundle<H: Threads + Wait + Sync, R: ByteIn, W: ByteOut, O: Observer>(
     ensures memory { IsErrOf result (RunIoFault.Bundle bundle_faults.Memory) → ⊥ }
 {
     let tree = read_bundle_by_line(host.alloc, reader, &mut cause.header)?;
+    let (limits, workers) = (options.limits, options.workers);
     let request = requested(host.alloc, &options.targets)?;
-    let past = past_of(host.rt, host.alloc, tree, options.workers)?;
-    let tree = Arc::try_clone(past.tree())?;
-    let report = build_over(host, past, &request, options.limits, options.workers)?;
+    let past = past_of(host.rt, host.alloc, tree, workers)?;
+    let kept = past.share()?;
+    let report = report_over::<Brand, H, O>(host, past, &request, limits, workers)?;
     let exit = exit_after(host.alloc, &report, &request)?;
     report.write(host.alloc, writer)?;
-    Ok(BundleRun { exit, tree, report })
+    Ok(BundleRun {
+        exit,
+        past: kept,
+        report,
+    })
 }
 
 /// Reads a bundle to its end, and writes the candidates for a target's rule, one a line: those that are missing, and

@@ -1,32 +1,32 @@
 //! Runs over a directory.
 
-ghost use Rattle.std.specs.Prelude.{◌≡◌, ◌↔◌, false, IfErr, IfOk, IsErrOf, is_some, true};
+ghost use Rattle.std.specs.Prelude.{◌≡◌, ◌↔◌, false, IfErr, IfOk, IsErrOf, true};
 ghost use Rattle.std.specs.Arc.{arc_value};
-ghost use Rattle.redo_tree.specs.Tree.{file_at};
 ghost use Rattle.redo_dir.specs.Loaded.{IsLoaded};
+ghost use Rattle.redo_rules.specs.Results.{IsOfTree};
 ghost use Rattle.redo_run.specs.DirFaults.{of_load};
 ghost use Rattle.redo_run.specs.Directories.{FallsInList, IsBuilt, IsBlocked, IsFaultOf, IsRefusedBy, IsUnbuilt, IsUnread};
 ghost use Rattle.redo_run.specs.Directories.{FallsInPreview, IsUnwritten, ListsTree, PreviewsTree, ReportsTree, to_build};
 ghost use Rattle.redo_run.specs.inside.Foreseen.{IsForeseen, IsUnforeseen};
 ghost use Rattle.redo_run.specs.inside.Loading.{HasNoPlace};
-ghost use Rattle.redo_which.specs.Candidates.{book_path};
 
 use crate::candidates::text_of_search;
 use crate::exit::exit_after;
 use crate::request::requested;
 use crate::storing::{Plan, carry_out, to_store};
-use crate::workers::{build_over, past_of};
+use crate::workers::{past_of, report_over};
 use crate::{Cause, Exit, Host, Observer, Options, RunDirFault, Said};
 use redo_bundle::{ByteOut, write_all};
 use redo_dir::{LoadFault, Seen, WorkDir, journal_path, load_dir};
 use redo_mend::{Mended, mend};
+use redo_past::{Past, book_path, has_book};
 use redo_path::Path;
 use redo_report::{Report, write_report};
 use redo_tree::Tree;
-use redo_which::BOOK;
 use redo_which::lookup::search;
-use std::alloc::{AllocError, Global};
+use std::alloc::Global;
 use std::io::ErrorKind;
+use std::marker::Brand;
 use std::sync::{Arc, Wait};
 use std::thread::Threads;
 
@@ -37,8 +37,9 @@ pub struct DirRun {
     pub exit: Exit,
     /// How many names were passed over, as `load_dir` says.
     pub passed: u64,
-    /// The tree that was built: as it was loaded, or mended, without the files that were to be taken back.
-    pub tree: Arc<Tree>,
+    /// The past of the tree that was built, which the run opened. The tree is as it was loaded, or mended, without the files
+    /// that were to be taken back.
+    pub past: Past,
     /// The report, with the files that were built or kept and the new book.
     pub report: Report,
 }
@@ -51,20 +52,6 @@ fn unread(cause: &mut Cause, fault: LoadFault) -> RunDirFault
         cause.note(path, Said::System(*kind));
     }
     RunDirFault::from(fault)
-}
-
-/// The path of the book.
-fn book_path_of(alloc: Global) -> Result<Path, AllocError>
-    ensures { IfOk result (λ path. path ≡ book_path) }
-{
-    Path::of_text(alloc, BOOK)
-}
-
-/// Whether the tree has a book.
-fn has_book(alloc: Global, tree: &Tree) -> Result<bool, AllocError>
-    ensures { IfOk result (λ has. has ≡ is_some (file_at tree.now book_path)) }
-{
-    Ok(tree.content(&book_path_of(alloc)?).is_some())
 }
 
 /// Whether something stands at a path that is no file of the tree: a link, say.
@@ -154,7 +141,7 @@ where
 {
     let (tree, passed) = load(rt, alloc, dir, workers, cause)?;
     let book = FilePlace {
-        path: book_path_of(alloc)?,
+        path: book_path(alloc)?,
         no_file: Said::NoFile,
     };
     check_place(dir, alloc, &tree, &book, cause)?;
@@ -169,7 +156,7 @@ where
 /// What a build of a tree came to.
 #[derive(Drop)]
 struct Built {
-    tree: Arc<Tree>,
+    past: Past,
     report: Report,
     exit: Exit,
 }
@@ -181,16 +168,21 @@ fn build<H: Threads + Wait + Sync, O: Observer>(
     options: &Options,
 ) -> Result<Built, RunDirFault>
     ensures built { IfOk result (λ built. IsBuilt tree options.now built.report built.exit) }
-    ensures tree { IfOk result (λ built. arc_value built.tree ≡ tree) }
+    ensures past { IfOk result (λ built. IsOfTree tree built.past) }
     ensures refused { IfErr result (IsUnbuilt tree options.now) }
 {
+    let (limits, workers) = (options.limits, options.workers);
     let request = requested(host.alloc, &options.targets)?;
-    let past = past_of(host.rt, host.alloc, tree, options.workers)?;
-    let tree = Arc::try_clone(past.tree())?;
-    let report = build_over(host, past, &request, options.limits, options.workers)?;
+    let past = past_of(host.rt, host.alloc, tree, workers)?;
+    let kept = past.share()?;
+    let report = report_over::<Brand, H, O>(host, past, &request, limits, workers)?;
     let exit = exit_after(host.alloc, &report, &request)?;
     let report = report.into_report(host.alloc)?;
-    Ok(Built { tree, report, exit })
+    Ok(Built {
+        past: kept,
+        report,
+        exit,
+    })
 }
 
 /// What a build came to without the files that are to be taken back, and the tree that has them.
@@ -207,14 +199,14 @@ fn build_mended<H: Threads + Wait + Sync, O: Observer>(
     options: &Options,
 ) -> Result<OfMended, RunDirFault>
     ensures mended { IfOk result (λ of. arc_value of.mended ≡ mended) }
-    ensures tree { IfOk result (λ of. arc_value of.built.tree ≡ to_build options.now mended) }
+    ensures past { IfOk result (λ of. IsOfTree (to_build options.now mended) of.built.past) }
     ensures built { IfOk result (λ of.
         IsBuilt (to_build options.now mended) options.now of.built.report of.built.exit) }
     ensures refused { IfErr result (IsUnbuilt (to_build options.now mended) options.now) }
 {
     if options.taken.is_empty() {
         let built = build(host, mended, options)?;
-        let mended = Arc::try_clone(&built.tree)?;
+        let mended = Arc::try_clone(built.past.tree())?;
         return Ok(OfMended { mended, built });
     }
     let tree = mended.without(host.alloc, &options.taken)?;
@@ -245,10 +237,10 @@ where
     ensures fault { IfErr result (IsUnforeseen (D.lists dir.now) (D.leads dir.now) (D.refuses dir.now) options.now) }
 {
     let (tree, passed) = load_with_book(host.rt, host.alloc, dir, options.workers, cause)?;
-    let over = has_book(host.alloc, &tree)?;
+    let over = has_book(&tree);
     let Mended { tree, left } = mend(host.rt, host.alloc, options.workers, tree)?;
     let OfMended { mended, built } = build_mended(host, tree, options)?;
-    let Built { tree, report, exit } = built;
+    let Built { past, report, exit } = built;
     let new = to_store(host.alloc, &mended, &report.files)?;
     let plan = Plan {
         left,
@@ -259,7 +251,7 @@ where
     let run = DirRun {
         exit,
         passed,
-        tree,
+        past,
         report,
     };
     Ok(Foreseen { run, mended, plan })

@@ -10,10 +10,10 @@ ghost use Rattle.redo_build.specs.Outcomes.{IsTooMany};
 ghost use Rattle.redo_build.specs.Takes.{AreBegun, AreCountedOnce};
 ghost use Rattle.redo_core.specs.Taken.{HasTaken};
 ghost use Rattle.redo_core.specs.Views.{limit_on, request_on, rules_on};
-ghost use Rattle.redo_rules.specs.Results.{IsGiven, IsRefused, IsResultOn, NeedsTooMany};
+ghost use Rattle.redo_rules.specs.Results.{IsGiven, IsOfTree, IsRefused, IsResultOn, NeedsTooMany};
 ghost use Rattle.redo_sync.specs.Relay.{SharesOut, taken_by};
 ghost use Rattle.redo_run.specs.Skipping.{IsSoundOn, IsUnsafeOn};
-ghost use Rattle.redo_run.specs.inside.Workers.{AreOtherTakers, IsAnswerTo, NeedsMany};
+ghost use Rattle.redo_run.specs.inside.Workers.{AreOtherTakers, IsAnswerTo, IsBuildOf, NeedsMany};
 
 use crate::crew::Shared;
 use crate::ended::{EndedBuild, hand_out};
@@ -36,7 +36,6 @@ use redo_step::Limits;
 use redo_sync::{JobTaker, Ledger, gather, relay};
 use redo_tree::Tree;
 use std::alloc::Global;
-use std::marker::Brand;
 use std::sync::Wait;
 use std::thread;
 use std::thread::{Scope, Threads};
@@ -189,7 +188,7 @@ pub(crate) fn past_of<R: Threads + Sync>(
     tree: Tree,
     threads: usize,
 ) -> Result<Past, RunFault>
-    ensures past { IfOk result (λ past. past.tree ≡ tree) }
+    ensures past { IfOk result (IsOfTree tree) }
     ensures book { (n : ℕ) → result ≡ Err (RunFault.Book n) → IsRefused tree n }
     ensures no_build { result ≡ Err RunFault.TooMany → ⊥ }
 {
@@ -225,12 +224,12 @@ pub fn build_many<B: BuildBrand + Send + Sync, R: Threads + Wait + Sync, O: Obse
     ensures only_unsafe { result ≡ Err RunFault.TooMany → IsUnsafeOn tree request.now limits }
 {
     let past = past_of(host.rt, host.alloc, tree, workers)?;
-    let (report, ledger) = build_by::<B, R, O>(host, past, request, limits, workers)?;
+    let (report, ledger) = build_over::<B, R, O>(host, past, request, limits, workers)?;
     Ok((report.into_report(host.alloc)?, ledger))
 }
 
-/// The same as [`build_many`], over a past. The new book has no text yet.
-fn build_by<B: BuildBrand + Send + Sync, R: Threads + Wait + Sync, O: Observer>(
+/// Builds as [`build_many`] does, over what a run before has left. The new book has no text yet.
+fn build_over<B: BuildBrand + Send + Sync, R: Threads + Wait + Sync, O: Observer>(
     host: &Host<'_, R, O>,
     past: Past,
     request: &[Path],
@@ -240,14 +239,7 @@ fn build_by<B: BuildBrand + Send + Sync, R: Threads + Wait + Sync, O: Observer>(
     requires of_build { (B.tree ≡ past.tree) × (B.request ≡ request.now) × (B.limits ≡ limits) }
     requires some { 1 ≤ workers }
     requires few { workers ≤ 64 }
-    ensures report { IfOk result (λ r. IsResultOn past.tree request.now limits r.0) }
-    ensures sound { IfOk result (λ r. IsSoundOn past.tree request.now limits r.0) }
-    ensures none_left { IfOk result (λ r. r.1.left ≡ []) }
-    ensures once { IfOk result (λ r. AreCountedOnce r.1.taken) }
-    ensures begun { IfOk result (λ r. AreBegun r.1.taken r.0.begun.items) }
-    ensures book { (n : ℕ) → result ≡ Err (RunFault.Book n) → ⊥ }
-    ensures too_many { result ≡ Err RunFault.TooMany → NeedsTooMany past.tree request.now limits }
-    ensures only_unsafe { result ≡ Err RunFault.TooMany → IsUnsafeOn past.tree request.now limits }
+    ensures { IsBuildOf past.tree request.now limits result }
 {
     what_was_taken();
     keeping_is_sound();
@@ -256,8 +248,8 @@ fn build_by<B: BuildBrand + Send + Sync, R: Threads + Wait + Sync, O: Observer>(
     Ok(run_build::<B, R, O>(host, board, workers)?)
 }
 
-/// The report alone, without the ledger.
-fn report_by<B: BuildBrand + Send + Sync, R: Threads + Wait + Sync, O: Observer>(
+/// The report of such a build, without its ledger, for a caller that names no build by a type: it passes `Brand`.
+pub(crate) fn report_over<B: BuildBrand + Send + Sync, R: Threads + Wait + Sync, O: Observer>(
     host: &Host<'_, R, O>,
     past: Past,
     request: &[Path],
@@ -273,28 +265,8 @@ fn report_by<B: BuildBrand + Send + Sync, R: Threads + Wait + Sync, O: Observer>
     ensures too_many { result ≡ Err RunFault.TooMany → NeedsTooMany past.tree request.now limits }
     ensures only_unsafe { result ≡ Err RunFault.TooMany → IsUnsafeOn past.tree request.now limits }
 {
-    match build_by::<B, R, O>(host, past, request, limits, workers) {
+    match build_over::<B, R, O>(host, past, request, limits, workers) {
         Ok((report, _ledger)) => Ok(report),
         Err(fault) => Err(fault),
     }
-}
-
-/// Builds as [`build_many`] does, over what a run before has left, and answers the report alone, with the new book not
-/// as text yet.
-pub(crate) fn build_over<R: Threads + Wait + Sync, O: Observer>(
-    host: &Host<'_, R, O>,
-    past: Past,
-    request: &[Path],
-    limits: Limits,
-    workers: usize,
-) -> Result<RunReport, RunFault>
-    requires some { 1 ≤ workers }
-    requires few { workers ≤ 64 }
-    ensures report { IfOk result (IsResultOn past.tree request.now limits) }
-    ensures sound { IfOk result (IsSoundOn past.tree request.now limits) }
-    ensures book { (n : ℕ) → result ≡ Err (RunFault.Book n) → ⊥ }
-    ensures too_many { result ≡ Err RunFault.TooMany → NeedsTooMany past.tree request.now limits }
-    ensures only_unsafe { result ≡ Err RunFault.TooMany → IsUnsafeOn past.tree request.now limits }
-{
-    report_by::<Brand, R, O>(host, past, request, limits, workers)
 }

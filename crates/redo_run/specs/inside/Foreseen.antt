@@ -5,6 +5,7 @@ use Rattle.std.specs.declared.io.ErrorKind.{ErrorKind}
 use Rattle.redo_tree.specs.Tree.{Node, Tree}
 use Rattle.redo_dir.specs.Loaded.{IsLoaded}
 use Rattle.redo_mend.specs.Mended.{MendsTo}
+use Rattle.redo_rules.specs.Results.{IsOfTree}
 use Rattle.redo_run.specs.Directories.{IsBuilt, IsUnreadable, Stays, to_build}
 use Rattle.redo_run.specs.Storing.{clearing, storing, to_store}
 use Rattle.redo_run.specs.inside.Storing.{steps_left, steps_new}
@@ -19,7 +20,7 @@ pub record IsForeseen (lists : List ℕ → List (Option (List ℕ)) → Type 0)
   pub loaded : Tree
   pub is_loaded : IsLoaded lists leads loaded f.run.passed
   pub mends : MendsTo loaded (arc_value f.mended)
-  pub tree : arc_value f.run.tree ≡ to_build options (arc_value f.mended)
+  pub past : IsOfTree (to_build options (arc_value f.mended)) f.run.past
   pub built : IsBuilt (to_build options (arc_value f.mended)) options f.run.report f.run.exit
   pub left : steps_left f.plan ≡ clearing loaded (arc_value f.mended)
   pub new : steps_new (arc_value f.mended) f.plan ≡ storing (arc_value f.mended) (to_store (arc_value f.mended) f.run.report.files.items)

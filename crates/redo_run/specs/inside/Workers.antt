@@ -13,6 +13,9 @@ use Rattle.redo_report.specs.declared.report.Report.{Report}
 use Rattle.redo_step.specs.Limits.{LimitsView}
 use Rattle.redo_sync.specs.Relay.{Pair, RelayId, Shares, Source, Taker}
 use Rattle.redo_tree.specs.Tree.{Tree}
+use Rattle.redo_run.specs.Skipping.{IsSoundOn, IsUnsafeOn}
+use Rattle.redo_run.specs.declared.run_fault.RunFault.{RunFault}
+use Rattle.redo_run.specs.declared.run_fault.RunFault.TheVariants as faults
 
 -- the source is of the same relay, with as many takers
 abbrev pub IsSameSource : Source → Source → Type 0
@@ -74,3 +77,17 @@ pub record IsAnswerTo (tree : Tree) (request : List (List ℕ)) (limits : Limits
   pub once : IfOk answer (λ r. AreCountedOnce r.1.taken)
   pub begun : IfOk answer (λ r. AreBegun r.1.taken r.0.begun.items)
   pub too_many : answer ≡ Err TooMany → NeedsTooMany tree request limits
+
+-- a build over a past: the report is that of the build, sound where keeping is safe; the ledger shows each job taken once
+-- and those of the begun scripts; no book is refused; and too many targets are answered where the build needs too many and
+-- keeping isn't safe
+pub record IsBuildOf (tree : Tree) (request : List (List ℕ)) (limits : LimitsView)
+    (answer : Result (Report × Shares) RunFault) : Type 0 where
+  pub report : IfOk answer (λ r. IsResultOn tree request limits r.0)
+  pub sound : IfOk answer (λ r. IsSoundOn tree request limits r.0)
+  pub none_left : IfOk answer (λ r. r.1.left ≡ [])
+  pub once : IfOk answer (λ r. AreCountedOnce r.1.taken)
+  pub begun : IfOk answer (λ r. AreBegun r.1.taken r.0.begun.items)
+  pub book : (n : ℕ) → answer ≡ Err (faults.Book n) → ⊥
+  pub too_many : answer ≡ Err faults.TooMany → NeedsTooMany tree request limits
+  pub only_unsafe : answer ≡ Err faults.TooMany → IsUnsafeOn tree request limits
