@@ -11,15 +11,14 @@ use bstr::{BStr, ByteSlice};
 use redo_diagnose::shown_lines;
 use redo_explain::explain;
 use redo_notes::text_of;
+use redo_past::{Past, has_book as holds_book};
 use redo_path::Path;
 use redo_report::Report;
 use redo_short::summary_words;
 use redo_tree::Tree;
-use redo_which::BOOK;
 use std::alloc::{AllocError, Global};
 use std::path::Path as SystemPath;
 use std::rt::Runtime;
-use std::thread::Threads;
 
 /// A build that has ended, and what is to be said of it.
 #[derive(Drop)]
@@ -33,8 +32,8 @@ pub(crate) struct After<'a> {
 /// What a build came to.
 #[derive(Drop)]
 pub(crate) struct Built<'a> {
-    /// The tree that was built.
-    pub(crate) tree: &'a Tree,
+    /// The past of the tree that was built.
+    pub(crate) past: &'a Past,
     pub(crate) report: &'a Report,
     /// Whether every requested path is a source or built.
     pub(crate) good: bool,
@@ -138,7 +137,7 @@ pub(crate) fn warn_of_book_above<H: Runtime>(
     dir: &str,
     tree: &Tree,
 ) {
-    if after.voice.warnings && !after.voice.notes && tree.file_by_text(BOOK).is_none() {
+    if after.voice.warnings && !after.voice.notes && !holds_book(tree) {
         let _said = note_book_above(rt, alloc, after, dir);
     }
 }
@@ -165,7 +164,7 @@ fn say_summary<H: Runtime>(
     built: &Built<'_>,
     milliseconds: u64,
 ) -> Result<(), AllocError> {
-    let files = written(built.report, built.tree);
+    let files = written(built.report, built.past.tree());
     if after.build.format == Format::Short {
         say_end(rt, after, "", files, milliseconds);
         return Ok(());
@@ -177,20 +176,14 @@ fn say_summary<H: Runtime>(
 }
 
 /// Says what is to be said of what a build came to.
-pub(crate) fn say_after<H: Runtime + Threads + Sync>(
+pub(crate) fn say_after<H: Runtime>(
     rt: &H,
     alloc: Global,
     after: &After<'_>,
     built: &Built<'_>,
     found: &Found,
 ) -> Result<(), AllocError> {
-    let (build, report) = (after.build, built.report);
-    let Found {
-        past,
-        notes,
-        dead,
-        ..
-    } = found;
+    let (build, past, report) = (after.build, built.past, built.report);
     if build.explained {
         let text = explain(alloc, past, &build.options.targets, report)?;
         say(rt, &shown_lines(alloc, &text)?);
@@ -199,9 +192,9 @@ pub(crate) fn say_after<H: Runtime + Threads + Sync>(
         say_diagnoses(rt, alloc, after, past, report)?;
     }
     if after.voice.notes || build.strict {
-        let text = text_of(alloc, notes, MOST_NOTES)?;
+        let text = text_of(alloc, &found.notes, MOST_NOTES)?;
         after.voice.note(rt, &shown_lines(alloc, &text)?);
-        note_dead(rt, alloc, after, *dead)?;
+        note_dead(rt, alloc, after, found.dead)?;
     }
     if after.voice.notes {
         say_echoes(rt, alloc, after, past, report)?;

@@ -72,26 +72,21 @@ where
 
 /// What is found beside a report, if anything is to be said of it. If there is no memory for it, it is left out, unless the
 /// build's end hangs on it, or what is printed.
-fn find_for<H: Runtime + Threads + Sync>(
-    rt: &H,
-    alloc: Global,
-    after: &After<'_>,
-    built: &Built<'_>,
-) -> Result<Option<Found>, Fault> {
+fn find_for(alloc: Global, after: &After<'_>, built: &Built<'_>) -> Result<Option<Found>, Fault> {
     if after.is_silent() {
         return Ok(None);
     }
     let is_plain = after.build.format == Format::Report;
-    match find(rt, alloc, after.build, built) {
+    match find(alloc, after.build, built) {
         Ok(found) => Ok(Some(found)),
         Err(_) if is_plain && !after.build.strict => Ok(None),
-        Err(fault) => Err(fault),
+        Err(fault) => Err(Fault::from(fault)),
     }
 }
 
 /// Says what is to be said of what was found, and returns whether nothing is stale that is to be refused. What can't be
 /// said for want of memory is left out, unless the build is strict.
-fn say_found<H: Runtime + Threads + Sync>(
+fn say_found<H: Runtime>(
     rt: &H,
     alloc: Global,
     after: &After<'_>,
@@ -108,18 +103,18 @@ fn say_found<H: Runtime + Threads + Sync>(
 }
 
 /// Says what is to be said of a build over a bundle, and returns whether all went well.
-fn end_over_bundle<H: Runtime + Threads + Sync>(
+fn end_over_bundle<H: Runtime>(
     rt: &H,
     alloc: Global,
     after: &After<'_>,
     run: BundleRun,
 ) -> Result<bool, Fault> {
-    let BundleRun { exit, tree, report } = run;
+    let BundleRun { exit, past, report } = run;
     let good = exit == Exit::Good;
     if after.is_silent() {
         // A leak on purpose: the process ends now, and the system takes back all memory at once.
         mem::forget(report);
-        mem::forget(tree);
+        mem::forget(past);
         return Ok(good);
     }
     let report = match report.into_report(alloc) {
@@ -128,17 +123,17 @@ fn end_over_bundle<H: Runtime + Threads + Sync>(
         Err(_) => return Ok(good),
     };
     let built = Built {
-        tree: &tree,
+        past: &past,
         report: &report,
         good,
     };
-    let found = find_for(rt, alloc, after, &built)?;
+    let found = find_for(alloc, after, &built)?;
     print_report(rt, alloc, after.build, &built, &found)?;
     Ok(say_found(rt, alloc, after, &built, &found)? && good)
 }
 
 /// Says what is to be said of a build over a directory, and returns whether all went well.
-fn end_over_dir<H: Runtime + Threads + Sync>(
+fn end_over_dir<H: Runtime>(
     rt: &H,
     alloc: Global,
     after: &After<'_>,
@@ -147,18 +142,18 @@ fn end_over_dir<H: Runtime + Threads + Sync>(
     let DirBuild { run, taken } = build;
     let good = run.exit == Exit::Good;
     let built = Built {
-        tree: &run.tree,
+        past: &run.past,
         report: &run.report,
         good,
     };
-    let found = find_for(rt, alloc, after, &built)?;
+    let found = find_for(alloc, after, &built)?;
     print_report(rt, alloc, after.build, &built, &found)?;
     note_passed(rt, run.passed);
     if let (true, Input::Directory(dir)) = (run.passed != 0, &after.build.input) {
-        note_names(rt, alloc, after.voice, dir, &run.tree);
+        note_names(rt, alloc, after.voice, dir, run.past.tree());
     }
     if let Input::Directory(dir) = &after.build.input {
-        warn_of_book_above(rt, alloc, after, dir, &run.tree);
+        warn_of_book_above(rt, alloc, after, dir, run.past.tree());
     }
     // Where there is no memory for its words, this is left out.
     let _said = say_taken(rt, alloc, after, &taken, &run.report);

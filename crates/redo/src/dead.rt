@@ -13,7 +13,6 @@ use redo_dir::{Lockable, SystemDir};
 use redo_past::Past;
 use redo_report::Report;
 use redo_run::{Cause, Exit, Host};
-use redo_tree::Tree;
 use std::alloc::Global;
 use std::io;
 use std::rt::Runtime;
@@ -30,19 +29,11 @@ struct Tried {
 }
 
 /// The clean of what a build doesn't need that came to this report. Where a target isn't built, what it needs isn't known.
-fn plan_by<H: Runtime + Threads + Sync>(
-    rt: &H,
-    alloc: Global,
-    build: &BuildOptions,
-    exit: Exit,
-    tree: &Tree,
-    report: &Report,
-) -> Result<CleanPlan, Fault> {
+fn plan_by(alloc: Global, exit: Exit, past: &Past, report: &Report) -> Result<CleanPlan, Fault> {
     if exit != Exit::Good {
         return Err(Fault::Unbuilt);
     }
-    let past = Past::open_by(rt, alloc, build.options.workers, tree.clone()?)?;
-    Ok(dead_plan(alloc, &past, report)?)
+    Ok(dead_plan(alloc, past, report)?)
 }
 
 /// Tries a build out.
@@ -55,18 +46,18 @@ where
     H::File: Send + Lockable,
     H::Dir: Send,
 {
-    let (rt, alloc) = (host.rt, host.alloc);
+    let alloc = host.alloc;
     let outcome = build_and_write(host, build, io::sink(), cause);
     host.observer.clear();
     match outcome? {
         Run::OverBundle(run) => {
             let report = run.report.into_report(alloc)?;
-            let plan = plan_by(rt, alloc, build, run.exit, &run.tree, &report)?;
+            let plan = plan_by(alloc, run.exit, &run.past, &report)?;
             Ok(Tried { plan, passed: 0 })
         }
         Run::OverDir(built) => {
             let run = built.run;
-            let plan = plan_by(rt, alloc, build, run.exit, &run.tree, &run.report)?;
+            let plan = plan_by(alloc, run.exit, &run.past, &run.report)?;
             let passed = run.passed;
             Ok(Tried { plan, passed })
         }

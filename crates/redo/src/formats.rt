@@ -10,53 +10,43 @@ use redo_diagnose::diagnoses;
 use redo_dot::dot;
 use redo_json::{Told as ToldAsJson, json};
 use redo_page::{Told, page};
-use redo_report::Report;
 use redo_rings::rings;
 use redo_short::short_text;
 use std::alloc::{AllocError, Global};
 use std::io;
 use std::rt::Runtime;
 
-/// The report of a build as a page.
-fn as_page(
+/// The report of a build with what is wrong in it: as a page, or else as JSON.
+fn with_wrong(
     alloc: Global,
     build: &BuildOptions,
+    built: &Built<'_>,
     found: &Found,
-    report: &Report,
-    status: u8,
 ) -> Result<Vec<u8>, AllocError> {
-    let limits = build.options.limits;
-    let diagnosed = diagnoses(alloc, found.past.sources(), limits, report, usize::MAX)?;
-    let rings = rings(alloc, report)?;
-    let told = Told {
-        status,
-        request: &build.options.targets,
-        diagnoses: &diagnosed.diagnoses,
-        rings: &rings,
-        notes: &found.notes,
-    };
-    page(alloc, &found.past, report, &told)
-}
-
-/// The report of a build as JSON.
-fn as_json(
-    alloc: Global,
-    build: &BuildOptions,
-    found: &Found,
-    report: &Report,
-    status: u8,
-) -> Result<Vec<u8>, AllocError> {
-    let limits = build.options.limits;
-    let diagnosed = diagnoses(alloc, found.past.sources(), limits, report, usize::MAX)?;
-    let rings = rings(alloc, report)?;
+    let (sources, limits) = (built.past.sources(), build.options.limits);
+    let diagnosed = diagnoses(alloc, sources, limits, built.report, usize::MAX)?;
+    let rings = rings(alloc, built.report)?;
+    let (status, request) = (found.status(built), build.options.targets.as_slice());
+    let (diagnoses, rings) = (diagnosed.diagnoses.as_slice(), rings.as_slice());
+    let notes = &found.notes;
+    if build.format == Format::Html {
+        let told = Told {
+            status,
+            request,
+            diagnoses,
+            rings,
+            notes,
+        };
+        return page(alloc, built.past, built.report, &told);
+    }
     let told = ToldAsJson {
         status,
-        request: &build.options.targets,
-        diagnoses: &diagnosed.diagnoses,
-        rings: &rings,
-        notes: &found.notes,
+        request,
+        diagnoses,
+        rings,
+        notes,
     };
-    json(alloc, &found.past, report, &told)
+    json(alloc, built.past, built.report, &told)
 }
 
 /// The report of a build in another form than its own.
@@ -66,13 +56,11 @@ fn text_in(
     built: &Built<'_>,
     found: &Found,
 ) -> Result<Vec<u8>, AllocError> {
-    let (report, status) = (built.report, found.status(built));
     match build.format {
         Format::Report => Ok(Vec::new(alloc)),
-        Format::Short => short_text(alloc, report),
-        Format::Json => as_json(alloc, build, found, report, status),
-        Format::Dot(with_rules) => dot(alloc, report, with_rules),
-        Format::Html => as_page(alloc, build, found, report, status),
+        Format::Short => short_text(alloc, built.report),
+        Format::Dot(with_rules) => dot(alloc, built.report, with_rules),
+        Format::Json | Format::Html => with_wrong(alloc, build, built, found),
     }
 }
 

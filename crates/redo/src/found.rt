@@ -1,21 +1,16 @@
-//! What is found of a build beside its report: what it went on from, and what is stale.
+//! What is found of a build beside its report: what is stale.
 
 use crate::actions::BuildOptions;
 use crate::after::Built;
 use crate::status;
-use crate::status::Fault;
 use redo_dead::dead_plan;
 use redo_notes::{Notes, notes};
-use redo_past::Past;
+use redo_run::DEFAULT_TARGET;
 use std::alloc::{AllocError, Global};
-use std::rt::Runtime;
-use std::thread::Threads;
 
 /// What is found of a build beside its report.
 #[derive(Drop)]
 pub(crate) struct Found {
-    /// The past of the tree that was built.
-    pub(crate) past: Past,
     pub(crate) notes: Notes,
     /// How many files builds left that this one doesn't need, where it is a build of `all` and went well.
     pub(crate) dead: usize,
@@ -32,37 +27,29 @@ impl Found {
 
 /// How many files builds left that this one doesn't need. Where it isn't one of `all`, others may, and where a target isn't
 /// built, what it needs isn't known.
-fn dead_of(
-    alloc: Global,
-    build: &BuildOptions,
-    past: &Past,
-    built: &Built<'_>,
-) -> Result<usize, AllocError> {
+fn dead_of(alloc: Global, build: &BuildOptions, built: &Built<'_>) -> Result<usize, AllocError> {
     let is_of_all = build
         .options
         .targets
         .iter()
-        .any(|target| target.text() == b"all".as_slice());
+        .any(|target| target.text() == DEFAULT_TARGET);
     if !built.good || !is_of_all {
         return Ok(0);
     }
-    let plan = dead_plan(alloc, past, built.report)?;
+    let plan = dead_plan(alloc, built.past, built.report)?;
     Ok(plan.generated.len())
 }
 
 /// Finds what there is beside a report.
-pub(crate) fn find<H: Runtime + Threads + Sync>(
-    rt: &H,
+pub(crate) fn find(
     alloc: Global,
     build: &BuildOptions,
     built: &Built<'_>,
-) -> Result<Found, Fault> {
-    let past = Past::open_by(rt, alloc, build.options.workers, built.tree.clone()?)?;
-    let notes = notes(alloc, &past, &build.options.targets, built.report)?;
-    let dead = dead_of(alloc, build, &past, built)?;
+) -> Result<Found, AllocError> {
+    let notes = notes(alloc, built.past, &build.options.targets, built.report)?;
+    let dead = dead_of(alloc, build, built)?;
     let is_fine = !build.strict || (notes.is_empty() && dead == 0);
     Ok(Found {
-        past,
         notes,
         dead,
         is_fine,

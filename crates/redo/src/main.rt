@@ -21,6 +21,7 @@ mod formats;
 mod found;
 mod line;
 mod lists;
+mod opening;
 mod options;
 mod packing;
 mod passing;

@@ -3,49 +3,19 @@
 use crate::actions::{Listing, Query, Shadows};
 use crate::lists::list_in;
 use crate::note_passed;
-use crate::options::Input;
+use crate::opening::past_of;
 use crate::status::Fault;
 use bstr::BStr;
-use redo_bundle::{Plain, read_bundle_by_line, write_all};
-use redo_dir::SystemDir;
-use redo_mend::mend;
+use redo_bundle::{Plain, write_all};
 use redo_notes::{shadowed, text_of_shadowed};
 use redo_ood::out_of_date;
-use redo_past::Past;
 use redo_path::Path;
 use redo_query::{Answer, answer_to};
-use redo_run::{Cause, load_with_book};
-use redo_tree::Tree;
+use redo_run::Cause;
 use std::alloc::Global;
 use std::io;
 use std::rt::Runtime;
 use std::thread::Threads;
-
-/// Reads a tree, by so many threads, as a run goes on with it. Answers how many names were passed over, too.
-fn load<H: Runtime + Threads + Sync>(
-    rt: &H,
-    alloc: Global,
-    input: &Input,
-    workers: usize,
-    cause: &mut Cause,
-) -> Result<(Tree, u64), Fault>
-where
-    H::File: Send,
-    H::Dir: Send,
-{
-    match input {
-        Input::Bundle => {
-            let mut reader = Plain::new(rt.reader());
-            let tree = read_bundle_by_line(alloc, &mut reader, &mut cause.header)?;
-            Ok((tree, 0))
-        }
-        Input::Directory(dir) => {
-            let dir = SystemDir::new(rt, alloc, dir);
-            let (tree, passed) = load_with_book(rt, alloc, &dir, workers, cause)?;
-            Ok((mend(rt, alloc, workers, tree)?.tree, passed))
-        }
-    }
-}
 
 /// Prints the answer to a question, and returns whether the book knows what is asked for.
 pub(crate) fn ask<H: Runtime + Threads + Sync>(
@@ -58,8 +28,7 @@ where
     H::File: Send,
     H::Dir: Send,
 {
-    let (tree, passed) = load(rt, alloc, &query.input, query.workers, cause)?;
-    let past = Past::open_by(rt, alloc, query.workers, tree)?;
+    let (past, passed) = past_of(rt, alloc, &query.input, query.workers, cause)?;
     match answer_to(alloc, &past, &query.question)? {
         Answer::Lines(text) => {
             let mut writer = Plain::new(io::writer(rt));
@@ -87,8 +56,7 @@ where
     H::File: Send,
     H::Dir: Send,
 {
-    let (tree, passed) = load(rt, alloc, &listing.input, listing.workers, cause)?;
-    let past = Past::open_by(rt, alloc, listing.workers, tree)?;
+    let (past, passed) = past_of(rt, alloc, &listing.input, listing.workers, cause)?;
     let listed = out_of_date(alloc, &past, &listing.targets)?;
     let text = list_in(alloc, listing.format, &past, &listed)?;
     write_all(&mut Plain::new(io::writer(rt)), &text)?;
@@ -107,8 +75,7 @@ where
     H::File: Send,
     H::Dir: Send,
 {
-    let (tree, passed) = load(rt, alloc, &shadows.input, shadows.workers, cause)?;
-    let past = Past::open_by(rt, alloc, shadows.workers, tree)?;
+    let (past, passed) = past_of(rt, alloc, &shadows.input, shadows.workers, cause)?;
     let text = text_of_shadowed(alloc, &shadowed(alloc, &past)?)?;
     write_all(&mut Plain::new(io::writer(rt)), &text)?;
     note_passed(rt, passed);

@@ -2,18 +2,17 @@
 
 use crate::actions::BuildOptions;
 use crate::after::{After, MOST_NOTES};
+use crate::opening::past_in;
 use crate::options::Storing;
 use crate::progress::Progress;
 use crate::status::Fault;
 use redo_diagnose::shown_lines;
 use redo_dir::WorkDir;
-use redo_mend::{Mended, mend};
 use redo_names::PathSet;
 use redo_notes::shadowed_within;
-use redo_past::Past;
 use redo_path::Path;
 use redo_report::Report;
-use redo_run::{Cause, Host, Options, load_with_book};
+use redo_run::{Cause, Host, Options};
 use std::alloc::{AllocError, Global};
 use std::rt::Runtime;
 use std::thread::Threads;
@@ -32,9 +31,7 @@ where
     if build.take.is_empty() {
         return Ok(Vec::new(alloc));
     }
-    let (tree, _) = load_with_book(rt, alloc, dir, workers, cause)?;
-    let Mended { tree, .. } = mend(rt, alloc, workers, tree)?;
-    let past = Past::open_by(rt, alloc, workers, tree)?;
+    let (past, _) = past_in(rt, alloc, dir, workers, cause)?;
     Ok(shadowed_within(alloc, &past, &build.take)?)
 }
 

@@ -1,0 +1,52 @@
+//! The past of a tree that is asked about, and isn't built.
+
+use crate::options::Input;
+use crate::status::Fault;
+use redo_bundle::{Plain, read_bundle_by_line};
+use redo_dir::{SystemDir, WorkDir};
+use redo_mend::mend;
+use redo_past::Past;
+use redo_run::{Cause, load_with_book};
+use std::alloc::Global;
+use std::rt::Runtime;
+use std::thread::Threads;
+
+/// The past of a directory's tree, as a run goes on with it, and how many names were passed over. So many threads read it.
+pub(crate) fn past_in<H: Runtime + Threads + Sync, D: WorkDir + Sync>(
+    rt: &H,
+    alloc: Global,
+    dir: &D,
+    workers: usize,
+    cause: &mut Cause,
+) -> Result<(Past, u64), Fault>
+where
+    D::Draft: Send,
+{
+    let (tree, passed) = load_with_book(rt, alloc, dir, workers, cause)?;
+    let tree = mend(rt, alloc, workers, tree)?.tree;
+    Ok((Past::open_by(rt, alloc, workers, tree)?, passed))
+}
+
+/// The same of a bundle, or of a directory.
+pub(crate) fn past_of<H: Runtime + Threads + Sync>(
+    rt: &H,
+    alloc: Global,
+    input: &Input,
+    workers: usize,
+    cause: &mut Cause,
+) -> Result<(Past, u64), Fault>
+where
+    H::File: Send,
+    H::Dir: Send,
+{
+    match input {
+        Input::Bundle => {
+            let mut reader = Plain::new(rt.reader());
+            let tree = read_bundle_by_line(alloc, &mut reader, &mut cause.header)?;
+            Ok((Past::open_by(rt, alloc, workers, tree)?, 0))
+        }
+        Input::Directory(dir) => {
+            past_in(rt, alloc, &SystemDir::new(rt, alloc, dir), workers, cause)
+        }
+    }
+}
