@@ -1,15 +1,12 @@
 //! What is said on standard error behind the report of a build.
 
-use crate::above::{has_book, levels_to_book};
-use crate::actions::BuildOptions;
 use crate::diagnosing::{say_diagnoses, say_echoes, say_scripts};
 use crate::found::Found;
-use crate::options::{Format, Input, Storing};
 use crate::summary::{Counted, written};
-use crate::voice::Voice;
 use bstr::{BStr, ByteSlice};
 use redo_diagnose::shown_lines;
 use redo_explain::explain;
+use redo_line::{BuildOptions, Format, Input, Storing, Voice, has_book, levels_to_book, say};
 use redo_notes::text_of;
 use redo_past::{Past, has_book as holds_book};
 use redo_path::Path;
@@ -51,14 +48,6 @@ impl After<'_> {
 /// So many notes of a kind are said at most.
 pub(crate) const MOST_NOTES: usize = 10;
 
-/// Says lines of text.
-pub(crate) fn say<H: Runtime>(rt: &H, text: &[u8]) {
-    for line in text.lines() {
-        let line = BStr::new(line);
-        let _shown = eprintln!(rt; "{line}");
-    }
-}
-
 /// Where the directory is so many levels above, from here.
 pub(crate) fn way_up(alloc: Global, levels: usize) -> Result<Vec<u8>, AllocError> {
     let mut way = Vec::new(alloc);
@@ -96,7 +85,7 @@ fn note_dead<H: Runtime>(
     } else {
         ("files", "are")
     };
-    let words = words_of_request(alloc, &after.build.options.targets)?;
+    let words = words_of_request(alloc, &after.build.targets)?;
     let targets = BStr::new(words.trim_ascii_end());
     let text = format!(in alloc;
         "{dead} {files} that builds left {verb} needed no more; see redo --dead{targets}, and redo --clean --dead{targets}"
@@ -185,7 +174,7 @@ pub(crate) fn say_after<H: Runtime>(
 ) -> Result<(), AllocError> {
     let (build, past, report) = (after.build, built.past, built.report);
     if build.explained {
-        let text = explain(alloc, past, &build.options.targets, report)?;
+        let text = explain(alloc, past, &build.targets, report)?;
         say(rt, &shown_lines(alloc, &text)?);
     }
     if after.voice.notes {

@@ -2,20 +2,18 @@
 
 ghost use Rattle.std.specs.Prelude.{◌≡◌, false};
 
-use crate::actions::BuildOptions;
 use crate::after::{After, Built, say_after, warn_of_book_above};
 use crate::behind::{Behind, Watched};
 use crate::formats::print_report;
 use crate::found::{Found, find};
-use crate::options::{Format, Input, Storing};
 use crate::passing::note_names;
 use crate::progress::Progress;
 use crate::status::Fault;
-use crate::taking::{options_for, say_taken};
-use crate::voice::Voice;
+use crate::taking::{options_for, options_of, say_taken};
 use crate::{buffered, flush, lock, note_passed};
 use redo_bundle::Plain;
 use redo_dir::{Lockable, SystemDir};
+use redo_line::{BuildOptions, Format, Input, Storing, Voice};
 use redo_path::Path;
 use redo_run::{BundleRun, Cause, DirRun, Exit, Host, Said, preview_dir, run_bundle, run_dir};
 use std::alloc::Global;
@@ -206,7 +204,8 @@ where
     let run = match &build.input {
         Input::Bundle => {
             let mut reader = Plain::new(host.rt.reader());
-            Run::OverBundle(run_bundle(host, &mut reader, writer, &build.options, cause)?)
+            let options = options_of(build, Vec::new(host.alloc))?;
+            Run::OverBundle(run_bundle(host, &mut reader, writer, &options, cause)?)
         }
         Input::Directory(dir) => Run::OverDir(build_dir(host, dir, build, writer, cause)?),
     };

@@ -1,12 +1,10 @@
 //! The cause behind a message, which `-v` adds if it is known.
 
-use crate::actions::Action;
 use crate::damaged;
-use crate::options::TARGETS;
 use crate::status::Fault;
 use bstr::BStr;
 use redo_bundle::BundleFault;
-use redo_path::PathFault;
+use redo_line::{Action, Input, MOST_TARGETS, Storing};
 use redo_run::{Cause, Said};
 use std::alloc::{AllocError, Global};
 use std::fmt::Display;
@@ -16,30 +14,37 @@ use std::rt::Runtime;
 /// A cause in words, or `None` if no more is known than the message says.
 pub(crate) type Words = Result<Option<String>, AllocError>;
 
-/// The target word that is refused, and why, and what to say in its place, if that is known. If memory ran out in the
-/// search for it, nothing is known.
-pub(crate) fn of_target(
-    alloc: Global,
-    bad: Option<(&str, PathFault)>,
-    instead: Option<String>,
-) -> Words {
-    let Some((word, why)) = bad else {
-        return Ok(None);
-    };
-    if why == PathFault::Memory {
-        return Ok(None);
-    }
-    match instead {
-        Some(help) => Ok(Some(format!(in alloc; "{word:?}: {why}; say {help}")?)),
-        None => of_path(alloc, word.as_bytes(), why),
+/// The directory that is read, if one is.
+fn directory_in(input: &Input) -> &str {
+    match input {
+        Input::Directory(dir) => dir,
+        Input::Bundle => "",
     }
 }
 
-/// Why a build needs `-k`.
-pub(crate) fn of_no_keep_going(alloc: Global) -> Words {
-    Ok(Some(format!(in alloc;
-        "a build that stopped at its first failure would come to other files for each order of its scripts; say redo -k"
-    )?))
+/// The directory that this is done to, if it is one.
+fn directory_of(action: &Action) -> &str {
+    match action {
+        Action::Build(build) => directory_in(&build.input),
+        Action::Dead(dead) => directory_in(&dead.build.input),
+        Action::Whichdo(_, input) => directory_in(input),
+        Action::Ask(query) => directory_in(&query.input),
+        Action::OutOfDate(listing) => directory_in(&listing.input),
+        Action::Shadowed(shadows) => directory_in(&shadows.input),
+        Action::Pack(packing) => &packing.dir,
+        Action::Unpack(dir) => dir,
+        Action::Clean(cleaning) => &cleaning.dir,
+    }
+}
+
+/// Whether files are stored before anything is printed.
+fn stores_first(action: &Action) -> bool {
+    match action {
+        Action::Build(build) => {
+            matches!(build.input, Input::Directory(_)) && build.storing != Storing::Nothing
+        }
+        _ => false,
+    }
 }
 
 /// The cause of a run's fault: the entry of the bundle, the directory or file, the book, or the limit.
@@ -52,30 +57,32 @@ pub(crate) fn of_fault<H: Runtime>(
 ) -> Words {
     match fault {
         Fault::Bundle(fault) => of_bundle(alloc, fault, &cause.header),
-        Fault::Directory => of_unread(alloc, cause, action.directory()),
+        Fault::Directory => of_unread(alloc, cause, directory_of(action)),
         Fault::Unstored | Fault::Unremoved | Fault::Journal | Fault::Left => {
             of_place(alloc, cause)
         }
         Fault::NoBook => Ok(Some(format!(in alloc;
             "no run has left a book in {:?}, so every file there counts as yours",
-            action.directory()
+            directory_of(action)
         )?)),
         Fault::NotEmpty => Ok(Some(format!(in alloc;
             "{:?} has names; a bundle is unpacked into an empty directory or a new one",
-            action.directory()
+            directory_of(action)
         )?)),
-        Fault::Output if action.stores_first() => of_lost_report(alloc, cause),
+        Fault::Output if stores_first(action) => of_lost_report(alloc, cause),
         Fault::Output => Ok(None),
         Fault::Busy => Ok(Some(format!(in alloc;
             "the lock of {:?} is held; a run gives it back when it ends, however it ends",
-            action.directory()
+            directory_of(action)
         )?)),
         Fault::Book(line) => {
-            let words = damaged::words_of(rt, alloc, action.directory(), line);
+            let words = damaged::words_of(rt, alloc, directory_of(action), line);
             Ok(Some(String::from_str(alloc, words)?))
         }
         Fault::Unbuilt => Ok(Some(format!(in alloc; "redo -k -n -v says why it fails")?)),
-        Fault::TooMany => Ok(Some(format!(in alloc; "more than {TARGETS} targets are needed")?)),
+        Fault::TooMany => Ok(Some(format!(in alloc;
+            "more than {MOST_TARGETS} targets are needed"
+        )?)),
         Fault::Memory => Ok(None),
     }
 }

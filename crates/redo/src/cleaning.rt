@@ -1,11 +1,11 @@
 //! The clean of a directory.
 
-use crate::actions::Cleaning;
 use crate::status::Fault;
 use crate::{lock, note_passed};
 use redo_bundle::{Plain, write_all};
 use redo_clean::{CleanFault, CleanPlan, clean, cleaned_text, plan, planned_text};
 use redo_dir::{Lockable, StoreFault, SystemDir, WorkDir};
+use redo_line::Cleaning;
 use redo_mend::{Mended, mend};
 use redo_past::{Past, has_book};
 use redo_run::{Cause, Said, load_with_book};

@@ -1,15 +1,14 @@
 //! The files that builds left and that a build needs no more.
 
-use crate::actions::{BuildOptions, Dead};
 use crate::building::{Run, build_and_write};
 use crate::cleaning::{clean_by_plan, print};
-use crate::options::Input;
 use crate::progress::Progress;
 use crate::status::Fault;
 use crate::{lock, note_passed};
 use redo_clean::{CleanPlan, planned_text};
 use redo_dead::{dead_plan, dead_text};
 use redo_dir::{Lockable, SystemDir};
+use redo_line::{BuildOptions, Dead, Input};
 use redo_past::Past;
 use redo_report::Report;
 use redo_run::{Cause, Exit, Host};

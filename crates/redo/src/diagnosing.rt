@@ -1,12 +1,11 @@
 //! What is wrong with failed targets, said on standard error behind the report.
 
-use crate::actions::BuildOptions;
 use crate::after::After;
-use crate::options::Input;
 use bstr::BStr;
 use redo_diagnose::{
     Diagnosed, Diagnosis, Echo, Stand, diagnoses, echoes, shown_lines, text_of, text_of_rings,
 };
+use redo_line::{BuildOptions, Input};
 use redo_past::Past;
 use redo_record::{Outcome, Why};
 use redo_report::Report;
@@ -95,7 +94,7 @@ fn find_diagnoses<H: Runtime>(
     past: &Past,
     report: &Report,
 ) -> Result<Diagnosed, AllocError> {
-    let limits = build.options.limits;
+    let limits = build.limits;
     let mut diagnosed = diagnoses(alloc, past.sources(), limits, report, MOST_MADE)?;
     if let Input::Directory(dir) = &build.input {
         for diagnosis in diagnosed.diagnoses.iter_mut() {

@@ -1,14 +1,13 @@
 //! Reports in other forms than their own.
 
-use crate::actions::BuildOptions;
 use crate::after::Built;
 use crate::found::Found;
-use crate::options::Format;
 use crate::status::Fault;
 use redo_bundle::{Plain, write_all};
 use redo_diagnose::diagnoses;
 use redo_dot::dot;
 use redo_json::{Told as ToldAsJson, json};
+use redo_line::{BuildOptions, Format};
 use redo_page::{Told, page};
 use redo_rings::rings;
 use redo_short::short_text;
@@ -23,10 +22,10 @@ fn with_wrong(
     built: &Built<'_>,
     found: &Found,
 ) -> Result<Vec<u8>, AllocError> {
-    let (sources, limits) = (built.past.sources(), build.options.limits);
+    let (sources, limits) = (built.past.sources(), build.limits);
     let diagnosed = diagnoses(alloc, sources, limits, built.report, usize::MAX)?;
     let rings = rings(alloc, built.report)?;
-    let (status, request) = (found.status(built), build.options.targets.as_slice());
+    let (status, request) = (found.status(built), build.targets.as_slice());
     let (diagnoses, rings) = (diagnosed.diagnoses.as_slice(), rings.as_slice());
     let notes = &found.notes;
     if build.format == Format::Html {

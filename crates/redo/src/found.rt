@@ -1,9 +1,9 @@
 //! What is found of a build beside its report: what is stale.
 
-use crate::actions::BuildOptions;
 use crate::after::Built;
 use crate::status;
 use redo_dead::dead_plan;
+use redo_line::BuildOptions;
 use redo_notes::{Notes, notes};
 use redo_run::DEFAULT_TARGET;
 use std::alloc::{AllocError, Global};
@@ -29,7 +29,6 @@ impl Found {
 /// built, what it needs isn't known.
 fn dead_of(alloc: Global, build: &BuildOptions, built: &Built<'_>) -> Result<usize, AllocError> {
     let is_of_all = build
-        .options
         .targets
         .iter()
         .any(|target| target.text() == DEFAULT_TARGET);
@@ -46,7 +45,7 @@ pub(crate) fn find(
     build: &BuildOptions,
     built: &Built<'_>,
 ) -> Result<Found, AllocError> {
-    let notes = notes(alloc, built.past, &build.options.targets, built.report)?;
+    let notes = notes(alloc, built.past, &build.targets, built.report)?;
     let dead = dead_of(alloc, build, built)?;
     let is_fine = !build.strict || (notes.is_empty() && dead == 0);
     Ok(Found {

@@ -1,9 +1,9 @@
 //! Lists of what is out of date, in each form.
 
-use crate::options::Format;
 use crate::status;
 use redo_dot::list_dot;
 use redo_json::list_json;
+use redo_line::Format;
 use redo_list::{Listed, text_of};
 use redo_page::list_page;
 use redo_past::Past;

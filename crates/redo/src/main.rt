@@ -1,28 +1,22 @@
 //! `redo`: builds the targets of a tree of files by their `.do` scripts, and reports what became of each.
 //!
-//! This crate has the command line, the words on standard error and the exit statuses; all else is in `redo_run`.
+//! This crate carries out what the command line asks for (`redo_line`), and has the words on standard error.
 #![tactic(auto)]
 
 ghost use Rattle.std.specs.Prelude.{◌≡◌, false};
 
-mod above;
-mod actions;
 mod after;
 mod behind;
 mod building;
 mod causes;
 mod cleaning;
-mod commands;
 mod damaged;
 mod dead;
 mod diagnosing;
-mod flags;
 mod formats;
 mod found;
-mod line;
 mod lists;
 mod opening;
-mod options;
 mod packing;
 mod passing;
 mod progress;
@@ -32,221 +26,76 @@ mod summary;
 mod taking;
 mod unpacking;
 mod version;
-mod voice;
 
-use actions::{Action, Call};
-use after::say;
-use clap::error::ErrorKind;
-use clap::{ArgMatches, Error};
-use commands::VERBOSE;
-use line::Line;
-use options::{Input, Refusal};
 use progress::Progress;
 use redo_bundle::Plain;
-use redo_diagnose::shown_lines;
 use redo_dir::{DirLock, LockFault, Lockable, SystemDir, lock_dir};
+use redo_line::{Action, BuildOptions, Call, Dead, Input, Voice, read_call};
 use redo_path::Path;
-use redo_run::{Cause, Host, Said, whichdo_bundle, whichdo_dir};
+use redo_run::{Cause, Host, Said, requested, whichdo_bundle, whichdo_dir};
 use status::Fault;
 use std::alloc::{AllocError, Global};
-use std::io::{BufWriter, IsTerminal, Write};
+use std::io;
+use std::io::{BufWriter, Write};
 use std::process::ExitCode;
 use std::rt::Runtime;
 use std::sync::Wait;
 use std::thread::Threads;
-use std::{env, io};
-use voice::{Screen, Voice};
+use version::VERSION;
 
 /// The size of the buffer of standard output, in bytes.
 const BUFFER_BYTES: usize = 65_536;
 
 fn main(rt: HostRuntime) -> ExitCode {
     let alloc = rt.alloc();
-    let call = match read_call(&rt, alloc) {
+    let Call { action, voice } = match read_call(&rt, alloc, VERSION) {
         Ok(call) => call,
         Err(status) => return ExitCode::from(status),
     };
+    let Ok(action) = with_request(alloc, action) else {
+        return ExitCode::from(tell_fault(&rt, Fault::Memory));
+    };
     let mut cause = Cause::new(alloc);
-    let progress = Progress::new(&rt, call.voice);
+    let progress = Progress::new(&rt, voice);
     let host = Host {
         rt: &rt,
         alloc,
         observer: &progress,
     };
-    match run(&host, &call, &mut cause) {
+    match run(&host, &action, voice, &mut cause) {
         Ok(good) => ExitCode::from(status::of_good(good)),
         Err(fault) => {
-            let _shown = eprintln!(rt; "redo: {fault}");
-            if call.voice.causes {
-                show_cause(
-                    &rt,
-                    causes::of_fault(&rt, alloc, fault, &cause, &call.action),
-                );
+            let status = tell_fault(&rt, fault);
+            if voice.causes {
+                show_cause(&rt, causes::of_fault(&rt, alloc, fault, &cause, &action));
             }
-            ExitCode::from(status::of_fault(fault))
+            ExitCode::from(status)
         }
     }
 }
 
-/// What the command line asks for, with the words in the environment. `Err` is the exit status if there is nothing to
-/// do: help, the version or a refusal was shown.
-fn read_call(rt: &HostRuntime, alloc: Global) -> Result<Call, u8> {
-    let words = words(rt, alloc).map_err(|refusal| refuse(rt, refusal))?;
-    let more = flags::words(rt, alloc).map_err(|refusal| refuse(rt, refusal))?;
-    read_words(rt, alloc, &words, &more)
+/// A build with what it requests: the default target, where none is named.
+fn requesting(alloc: Global, mut build: BuildOptions) -> Result<BuildOptions, AllocError> {
+    build.targets = requested(alloc, &build.targets)?;
+    Ok(build)
 }
 
-/// The same for the words of the command line, and those of the environment.
-fn read_words(
-    rt: &HostRuntime,
-    alloc: Global,
-    words: &[String],
-    more: &[String],
-) -> Result<Call, u8> {
-    let own = parse(rt, alloc, words)?;
-    let flags = parse_flags(rt, alloc, more)?;
-    let line = Line { own, flags };
-    if line.flags.is_some() && line.has(VERBOSE) {
-        show_cause(rt, flags::shown(alloc, more).map(Some));
-    }
-    call_of(rt, alloc, &line).map_err(|refusal| refuse_call(rt, alloc, refusal, &line))
-}
-
-/// What words say.
-fn parse<'w>(rt: &HostRuntime, alloc: Global, words: &'w [String]) -> Result<ArgMatches<'w>, u8> {
-    let command = options::command(alloc).map_err(|_| refuse(rt, Refusal::Memory))?;
-    match command.try_get_matches_from(words) {
-        Ok(matches) => Ok(matches),
-        Err(error) => {
-            let status = show_parse(rt, alloc, &error);
-            show_instead(rt, &error, words);
-            Err(status)
+/// What is done, with what it requests.
+fn with_request(alloc: Global, action: Action) -> Result<Action, AllocError> {
+    match action {
+        Action::Build(build) => Ok(Action::Build(requesting(alloc, build)?)),
+        Action::Dead(dead) => {
+            let build = requesting(alloc, dead.build)?;
+            Ok(Action::Dead(Dead { build, ..dead }))
         }
+        action => Ok(action),
     }
 }
 
-/// What the words in the environment say, if there are any. Where they are refused, it is said where they come from.
-fn parse_flags<'w>(
-    rt: &HostRuntime,
-    alloc: Global,
-    words: &'w [String],
-) -> Result<Option<ArgMatches<'w>>, u8> {
-    if words.len() <= 1 {
-        return Ok(None);
-    }
-    let command = options::command(alloc).map_err(|_| refuse(rt, Refusal::Memory))?;
-    let matches = match command.try_get_matches_from(words) {
-        Ok(matches) => matches,
-        Err(error) => {
-            if error.use_stderr() {
-                show_cause(rt, flags::shown(alloc, words).map(Some));
-            }
-            return Err(show_parse(rt, alloc, &error));
-        }
-    };
-    if let Err(refusal) = flags::check(&matches) {
-        show_cause(rt, flags::shown(alloc, words).map(Some));
-        return Err(refuse(rt, refusal));
-    }
-    Ok(Some(matches))
-}
-
-/// What the words ask for, in this place and on this standard error.
-fn call_of(rt: &HostRuntime, alloc: Global, line: &Line<'_>) -> Result<Call, Refusal> {
-    options::check(line)?;
-    let here = above::place_of(rt, alloc, line)?;
-    let action = options::action_of(alloc, line, here)?;
-    let voice = voice_of(rt, line);
-    Ok(Call { action, voice })
-}
-
-/// Whether a variable of the environment is there, and not empty.
-fn is_set(rt: &HostRuntime, name: &str) -> bool {
-    env::var(rt, name).is_ok_and(|value| !value.is_empty())
-}
-
-/// How much is said on this standard error.
-fn voice_of(rt: &HostRuntime, line: &Line<'_>) -> Voice {
-    // By common use, any value but an empty one says that no colours are wanted, and a terminal that isn't named, or is
-    // called dumb, takes no escape sequences.
-    let is_dumb = env::var(rt, "TERM").is_ok_and(|value| value.as_str() == "dumb");
-    let screen = Screen {
-        is_terminal: rt.stderr().is_terminal(),
-        is_able: is_set(rt, "TERM") && !is_dumb,
-        is_colourful: !is_set(rt, "NO_COLOR"),
-    };
-    Voice::of(line, screen)
-}
-
-/// The text of a refusal. What no terminal shows of the words that it repeats is written out.
-fn text_of_error(alloc: Global, error: &Error) -> Result<Vec<u8>, AllocError> {
-    let text = format!(in alloc; "{error}")?;
-    shown_lines(alloc, text.as_bytes())
-}
-
-/// Shows what the parse ended in: help or the version on standard output, a refusal on standard error. Returns the exit
-/// status.
-fn show_parse(rt: &HostRuntime, alloc: Global, error: &Error) -> u8 {
-    if error.kind() == ErrorKind::OutOfMemory {
-        return refuse(rt, Refusal::Memory);
-    }
-    if let (true, Ok(text)) = (error.use_stderr(), text_of_error(alloc, error)) {
-        say(rt, &text);
-        return status::of_parse(error);
-    }
-    if error.print(rt).is_err() && !error.use_stderr() {
-        let fault = Fault::Output;
-        let _shown = eprintln!(rt; "redo: {fault}");
-        return status::of_fault(fault);
-    }
-    status::of_parse(error)
-}
-
-/// Says what this program has in place of an option that others have.
-fn show_instead(rt: &HostRuntime, error: &Error, words: &[String]) {
-    let is_unknown = error.kind() == ErrorKind::UnknownArgument;
-    if is_unknown && words.iter().any(|word| word.as_str() == "--force") {
-        let _shown = eprintln!(rt; "redo: to build files that count as yours, say --take PATH");
-    }
-}
-
-/// The words of the command line, after the program's name.
-fn words(rt: &HostRuntime, alloc: Global) -> Result<Vec<String>, Refusal> {
-    Ok(env::args(rt)?.collect(alloc)?)
-}
-
-/// Shows why the command line is refused. Returns the exit status.
-fn refuse(rt: &HostRuntime, refusal: Refusal) -> u8 {
-    let _shown = eprintln!(rt; "redo: {refusal}");
-    status::of_refusal(refusal)
-}
-
-/// Shows why words that were read are refused, and the word where causes are shown. Returns the exit status.
-fn refuse_call(rt: &HostRuntime, alloc: Global, refusal: Refusal, line: &Line<'_>) -> u8 {
-    let status = refuse(rt, refusal);
-    if voice_of(rt, line).causes {
-        show_cause(rt, cause_of(rt, alloc, refusal, line));
-    }
-    status
-}
-
-/// Why words that were read are refused, if more is known than the refusal says.
-fn cause_of(rt: &HostRuntime, alloc: Global, refusal: Refusal, line: &Line<'_>) -> causes::Words {
-    match refusal {
-        Refusal::BadTarget => match above::place_of(rt, alloc, line) {
-            Ok(here) => {
-                let bad = options::bad_target(alloc, line, &here.below);
-                let instead = match bad {
-                    Some((word, why)) => above::instead_of(rt, alloc, &here, word, why)?,
-                    None => None,
-                };
-                causes::of_target(alloc, bad, instead)
-            }
-            Err(_) => Ok(None),
-        },
-        Refusal::NoKeepGoing => causes::of_no_keep_going(alloc),
-        _ => Ok(None),
-    }
+/// Says a fault in the program's words. Returns the exit status.
+fn tell_fault(rt: &HostRuntime, fault: Fault) -> u8 {
+    let _shown = eprintln!(rt; "redo: {fault}");
+    status::of_fault(fault)
 }
 
 /// Shows a cause behind a message, if it is known and there is memory for its words.
@@ -259,7 +108,8 @@ fn show_cause<E: Drop>(rt: &HostRuntime, cause: Result<Option<String>, E>) {
 /// Does what was asked for, and returns whether all went well.
 fn run<H: Runtime + Threads + Wait + Sync>(
     host: &Host<'_, H, Progress<'_>>,
-    call: &Call,
+    action: &Action,
+    voice: Voice,
     cause: &mut Cause,
 ) -> Result<bool, Fault>
 where
@@ -267,8 +117,8 @@ where
     H::Dir: Send,
 {
     let (rt, alloc) = (host.rt, host.alloc);
-    match &call.action {
-        Action::Build(build) => building::build(host, build, call.voice, cause),
+    match action {
+        Action::Build(build) => building::build(host, build, voice, cause),
         Action::Whichdo(target, input) => list(host, target, input, cause),
         Action::Ask(query) => queries::ask(rt, alloc, query, cause),
         Action::OutOfDate(listing) => queries::list_out_of_date(rt, alloc, listing, cause),

@@ -1,9 +1,9 @@
 //! The past of a tree that is asked about, and isn't built.
 
-use crate::options::Input;
 use crate::status::Fault;
 use redo_bundle::{Plain, read_bundle_by_line};
 use redo_dir::{SystemDir, WorkDir};
+use redo_line::Input;
 use redo_mend::mend;
 use redo_past::Past;
 use redo_run::{Cause, load_with_book};

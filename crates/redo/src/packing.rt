@@ -1,10 +1,10 @@
 //! A directory as a bundle.
 
-use crate::actions::Packing;
 use crate::status::Fault;
 use crate::{buffered, flush, note_passed};
 use redo_bundle::Plain;
 use redo_dir::SystemDir;
+use redo_line::Packing;
 use redo_pack::pack;
 use redo_run::{Cause, load};
 use redo_tree::Tree;

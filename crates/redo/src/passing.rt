@@ -1,8 +1,8 @@
 //! The names that a run passed over.
 
-use crate::voice::Voice;
 use bstr::BStr;
 use redo_dir::{Seen, SystemDir, WorkDir};
+use redo_line::Voice;
 use redo_path::{Path, resolve};
 use redo_tree::{Entry, Kind, Tree};
 use std::alloc::{AllocError, Global};

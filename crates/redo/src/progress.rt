@@ -1,8 +1,8 @@
 //! The line that shows how far a build is.
 
-use crate::voice::Voice;
 use bstr::BStr;
 use redo_core::board::Board;
+use redo_line::Voice;
 use redo_path::Path;
 use redo_run::Observer;
 use std::sync::atomic::AtomicU64;

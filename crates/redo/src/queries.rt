@@ -1,12 +1,12 @@
 //! Questions to the book of the last run.
 
-use crate::actions::{Listing, Query, Shadows};
 use crate::lists::list_in;
 use crate::note_passed;
 use crate::opening::past_of;
 use crate::status::Fault;
 use bstr::BStr;
 use redo_bundle::{Plain, write_all};
+use redo_line::{Listing, Query, Shadows};
 use redo_notes::{shadowed, text_of_shadowed};
 use redo_ood::out_of_date;
 use redo_path::Path;

@@ -1,46 +1,17 @@
 //! Exit statuses, and the words on standard error.
 
-use crate::options::Refusal;
-use clap::Error;
 use redo_bundle::{Broken, BundleFault};
 use redo_dir::LockFault;
+use redo_line::status::{FAILED, GOOD, INPUT, MEMORY, OUTPUT, TOO_MANY};
 use redo_pack::PackFault;
 use redo_past::PastFault;
 use redo_run::{RunDirFault, RunIoFault};
 use std::alloc::AllocError;
 use std::fmt;
 
-/// All requested targets are built or sources; a rule was found; help or the version was shown.
-pub(crate) const GOOD: u8 = 0;
-/// A requested target failed or is cyclic; no rule was found.
-pub(crate) const FAILED: u8 = 1;
-/// The command line is refused.
-pub(crate) const USAGE: u8 = 2;
-/// The bundle or the book is refused, or the directory can't be read, or another run is at work in it.
-pub(crate) const INPUT: u8 = 3;
-/// Too many targets are needed.
-pub(crate) const TOO_MANY: u8 = 4;
-/// The report, or a file, could not be written.
-pub(crate) const OUTPUT: u8 = 5;
-/// Memory ran out.
-pub(crate) const MEMORY: u8 = 6;
-
 /// The status by whether all went well.
 pub(crate) fn of_good(good: bool) -> u8 {
     if good { GOOD } else { FAILED }
-}
-
-/// The status after a parse that ended in help, the version or a refusal.
-pub(crate) fn of_parse(error: &Error) -> u8 {
-    if error.use_stderr() { USAGE } else { GOOD }
-}
-
-pub(crate) fn of_refusal(refusal: Refusal) -> u8 {
-    match refusal {
-        Refusal::Memory => MEMORY,
-        Refusal::NoTop | Refusal::Directory => INPUT,
-        _ => USAGE,
-    }
 }
 
 /// Why a run has no result, in the program's words.

@@ -1,13 +1,12 @@
 //! The files that a build takes back: sources that have a rule.
 
-use crate::actions::BuildOptions;
 use crate::after::{After, MOST_NOTES};
 use crate::opening::past_in;
-use crate::options::Storing;
 use crate::progress::Progress;
 use crate::status::Fault;
 use redo_diagnose::shown_lines;
 use redo_dir::WorkDir;
+use redo_line::{BuildOptions, Storing};
 use redo_names::PathSet;
 use redo_notes::shadowed_within;
 use redo_path::Path;
@@ -27,7 +26,7 @@ fn taken_in<H: Runtime + Threads + Sync, D: WorkDir + Sync>(
 where
     D::Draft: Send,
 {
-    let (rt, alloc, workers) = (host.rt, host.alloc, build.options.workers);
+    let (rt, alloc, workers) = (host.rt, host.alloc, build.workers);
     if build.take.is_empty() {
         return Ok(Vec::new(alloc));
     }
@@ -46,12 +45,16 @@ where
     D::Draft: Send,
 {
     let taken = taken_in(host, dir, build, cause)?;
-    let options = &build.options;
+    Ok(options_of(build, taken)?)
+}
+
+/// The options of a build that takes back these files.
+pub(crate) fn options_of(build: &BuildOptions, taken: Vec<Path>) -> Result<Options, AllocError> {
     Ok(Options {
-        targets: options.targets.clone()?,
+        targets: build.targets.clone()?,
         taken,
-        workers: options.workers,
-        limits: options.limits,
+        workers: build.workers,
+        limits: build.limits,
     })
 }
 

@@ -1,4 +1,4 @@
-//! How much is said on standard error.
+//! How much is said on standard error, and how.
 
 use crate::commands::{QUIET, VERBOSE};
 use crate::line::Line;
@@ -18,19 +18,19 @@ pub(crate) struct Screen {
 
 /// How much is said on standard error. Messages are said in any case.
 #[derive(Clone, Copy, Debug, PartialEq, Eq, Drop)]
-pub(crate) struct Voice {
+pub struct Voice {
     /// A message is followed by its cause.
-    pub(crate) causes: bool,
+    pub causes: bool,
     /// What is wrong with failed targets is told, and what is stale is noted.
-    pub(crate) notes: bool,
+    pub notes: bool,
     /// What no later run could tell is told.
-    pub(crate) warnings: bool,
+    pub warnings: bool,
     /// It is told what a build came to: standard error is a terminal.
-    pub(crate) summary: bool,
+    pub summary: bool,
     /// The progress of a build is shown, in a line that is written over.
-    pub(crate) progress: bool,
+    pub progress: bool,
     /// Notes are coloured.
-    pub(crate) colour: bool,
+    pub colour: bool,
 }
 
 impl Voice {
@@ -49,7 +49,7 @@ impl Voice {
     }
 
     /// Says what is stale, line by line.
-    pub(crate) fn note<H: Runtime>(self, rt: &H, text: &[u8]) {
+    pub fn note<H: Runtime>(self, rt: &H, text: &[u8]) {
         for line in text.lines() {
             let line = BStr::new(line);
             let _shown = if self.colour {
@@ -61,7 +61,7 @@ impl Voice {
     }
 
     /// Says what is wrong with failed targets. A line of a script, which is indented, isn't coloured.
-    pub(crate) fn diagnose<H: Runtime>(self, rt: &H, text: &[u8]) {
+    pub fn diagnose<H: Runtime>(self, rt: &H, text: &[u8]) {
         for line in text.lines() {
             let is_quoted = line.starts_with(b"    ");
             let line = BStr::new(line);
@@ -71,5 +71,13 @@ impl Voice {
                 eprintln!(rt; "{line}")
             };
         }
+    }
+}
+
+/// Says lines of text.
+pub fn say<H: Runtime>(rt: &H, text: &[u8]) {
+    for line in text.lines() {
+        let line = BStr::new(line);
+        let _shown = eprintln!(rt; "{line}");
     }
 }

@@ -1,7 +1,7 @@
 //! The options in the environment, in `REDOFLAGS`.
 
 use crate::commands;
-use crate::options::Refusal;
+use crate::refusal::Refusal;
 use clap::ArgMatches;
 use std::alloc::{AllocError, Global};
 use std::env;

@@ -1,7 +1,8 @@
 //! The options that say what is done in place of a build, and which options don't go together.
 
+use crate::asked::target;
 use crate::line::{Line, Named};
-use crate::options::{Refusal, target};
+use crate::refusal::Refusal;
 use clap::{Arg, ArgAction, ArgMatches, Command};
 use redo_path::{Path, PathFault};
 use redo_query::Question;

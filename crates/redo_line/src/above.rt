@@ -2,7 +2,7 @@
 
 use crate::commands::{DIRECTORY, TOP};
 use crate::line::Line;
-use crate::options::Refusal;
+use crate::refusal::Refusal;
 use redo_path::{Path, PathFault, resolve};
 use std::alloc::{AllocError, Global};
 use std::io::ErrorKind;
@@ -23,7 +23,7 @@ pub(crate) struct Here {
 const BOOK_NAME: &str = ".redo-book";
 
 /// Whether a directory has a book. What can't be looked at counts as none.
-pub(crate) fn has_book<H: Runtime>(rt: &H, alloc: Global, dir: SystemPath<'_>) -> bool {
+pub fn has_book<H: Runtime>(rt: &H, alloc: Global, dir: SystemPath<'_>) -> bool {
     let Ok(book) = dir.join(alloc, BOOK_NAME) else {
         return false;
     };
@@ -78,7 +78,7 @@ pub(crate) fn place_of<H: Runtime>(
 }
 
 /// How many levels above a directory the nearest one is that has a book, if one has.
-pub(crate) fn levels_to_book<H: Runtime>(rt: &H, alloc: Global, dir: &str) -> Option<usize> {
+pub fn levels_to_book<H: Runtime>(rt: &H, alloc: Global, dir: &str) -> Option<usize> {
     let Ok(place) = fs::canonicalize(rt, SystemPath::new(dir)) else {
         return None;
     };
