@@ -12,7 +12,7 @@ from errno import EAGAIN, EIO, ENOMEM, ENOSPC, EPERM, EWOULDBLOCK
 from signal import SIGKILL, SIGSTOP
 
 sys.dont_write_bytecode = True
-from program import Case, run
+from lib.program import Case, run
 
 # The kinds of calls, as `refuse.c` numbers them, each with the error that a refused one answers.
 KINDS = {

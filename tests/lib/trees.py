@@ -6,7 +6,7 @@ import random
 import re
 from posixpath import dirname, relpath
 
-from reports import BOOK, as_bytes, candidates
+from lib.reports import BOOK, as_bytes, candidates
 
 SEED = int(os.environ.get("SEED", 1))
 # Whether it is for a whole run to show enough of what it is about.

@@ -11,7 +11,7 @@ import tempfile
 from fnmatch import fnmatch
 from functools import cache
 
-TOP = os.path.dirname(os.path.dirname(os.path.abspath(__file__)))
+TOP = os.path.dirname(os.path.dirname(os.path.dirname(os.path.abspath(__file__))))
 # Documents invite their reader to change what stands here. So a copy has of it what git has, committed or staged.
 PLAYED_WITH = "examples/"
 # Its files, for where git doesn't know the tree. tests/examples compares the list with what git has.

@@ -6,7 +6,7 @@ import re
 import subprocess
 from collections import namedtuple
 
-from tracked import tracked
+from lib.tracked import tracked
 
 # Documents of which a clone runs the commands as they stand there.
 DOCUMENTS = ["README.md", "docs/MANUAL.md", *(it for it in tracked("examples") if it.endswith("/README.md"))]

@@ -12,8 +12,8 @@ import unittest
 from collections import namedtuple
 from threading import Timer
 
-from reports import BOOK, all_bytes, as_bytes, became, book_of, kept, new_book, parts, states, with_book, without_begun
-from tracked import TOP, room, room_in_memory
+from lib.reports import BOOK, all_bytes, as_bytes, became, book_of, kept, new_book, parts, states, with_book, without_begun
+from lib.tracked import TOP, room, room_in_memory
 
 # What a run came to: its exit status, and what it wrote on standard output and on standard error.
 Run = namedtuple("Run", "status out said")
