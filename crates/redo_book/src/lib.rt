@@ -3,8 +3,7 @@
 //! [`read_book`] makes a book from its text; for any other text it reports the first line at fault. A text can be
 //! written line by line to a [`ByteOut`](redo_bundle::ByteOut), so that a large one need not be whole in memory. The
 //! sizes of its lines are known in advance ([`record_size`] and the others), since the destination may ask for the
-//! length first. Depends on `redo_digest`, `redo_path` and `redo_record` for what a book holds, on `redo_bundle` for
-//! writers, on `redo_which` for adding up sizes, on `hex` and `memchr`, and on `thiserror`.
+//! length first.
 //!
 //! - `book`: books in memory; `faults`: why a text was refused;
 //! - `reading`, `lines`, `made`: a text, a single line, and what the lines so far have made;

@@ -2,8 +2,7 @@
 //!
 //! [`read_bundle`] makes a tree from a stream of bytes, or reports the first fault in it; [`write_bundle`] writes a
 //! tree in path order, so that it reads back as the same tree. Both use two small traits, [`ByteIn`] and [`ByteOut`],
-//! whose contracts name the bytes and say whether a call has failed. Depends on `redo_tree` and `redo_path`, on `itoa`
-//! for formatting numbers and on `thiserror`.
+//! whose contracts name the bytes and say whether a call has failed.
 //!
 //! - `ends`: where bytes come from and go to; `buffer`: bytes that were read and not used yet;
 //! - `reading`, `writing`: bundles, entry by entry; `faults`: why a bundle was refused, or not written;

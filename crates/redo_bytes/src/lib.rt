@@ -2,7 +2,7 @@
 //!
 //! A build keeps many short texts: target paths, one-line scripts, one-word files. [`Bytes`] stores up to 22 bytes in
 //! itself, so they need no allocation and are copied with it. A longer string is allocated once, and its clones share
-//! it. Depends on the standard library alone.
+//! it.
 //!
 //! - here: [`Bytes`];
 //! - `compare`: equality and order of byte strings, eight bytes at a time.

@@ -1,9 +1,8 @@
 //! What the last run left, removed again.
 //!
-//! A [`CleanPlan`] has the generated files of a past, which stand as the last run left them, and the targets whose files
-//! were changed since. [`clean`] removes the former, each only if it still has its bytes, and then the book; whatever else
-//! is in the directory stays. The crate stands on redo_past and redo_tree for pasts, on redo_which for the book's path, and
-//! on redo_dir for the directory, and for clearing away what a broken-off run has left.
+//! A [`CleanPlan`] has the generated files of a past, which stand as the last run left them, and the targets whose
+//! files were changed since. [`clean`] removes the former, each only if it still has its bytes, and then the book;
+//! whatever else is in the directory stays.
 //!
 //! - `planning`: what a clean would remove and keep; `fate`: what becomes of a file; `faults`: why a clean stops;
 //! - `cleaning`: the clean itself; `text`: what it prints.

@@ -3,13 +3,8 @@
 //! A board has the entries of a running build. Whatever the order in which its works are taken and handed in, it
 //! shows a part of the one build that `redo_build` defines until it has stopped, and all of it once it is quiet.
 //! Targets that still wait then are cyclic. The rules of that build are those of `redo_rules`: a source tree's
-//! scripts, and what the book of the last run lets it keep. The crate stands on `redo_build` for what a build is, on
-//! `redo_rules` for what it is given, on `redo_step` for what a script does, on `redo_record` for outcomes and
-//! records, on `redo_which` and `redo_tree` for rules and sources, on `redo_report` for what a build came to, on
-//! `redo_past` for what a run takes over, on `redo_skip` for what a book is used for, on `redo_script` and
-//! `redo_path`, on `redo_names`, which numbers targets by first sight, on `redo_table` for who waits for whom, and on
-//! `redo_sync` for write-once cells. It starts no thread and runs nothing by itself: a layer above takes, advances and
-//! hands in.
+//! scripts, and what the book of the last run lets it keep. It starts no thread and runs nothing by itself: a layer
+//! above takes, advances and hands in.
 //!
 //! - `laws`: what a board has taken, as the contract of a function that does nothing.
 //! - `board`: the board; `table`, `moves` and `first` are its inside, and `same` compares by value; `opening`: why none

@@ -28,8 +28,7 @@
 //! | worker | `back` | `Return` |
 //!
 //! The laws are of the machine of these steps (`specs/Runs`) and of its rings (`specs/Bell`), for every number of
-//! workers. They speak of steps; of threads, the system's sleep and its scheduler they say nothing. The crate stands on
-//! `atomic_table` for the word and on `crossbeam_channel` for the bell, both under a rule.
+//! workers. They speak of steps; of threads, the system's sleep and its scheduler they say nothing.
 //!
 //! - `counts`: the counts, their steps and capacities; `word`, `bell`: the two under their rules; `crew`: what threads
 //!   share; `member`: what one of them has of it; `lead`, `worker`: what each side does; `laws`: laws.

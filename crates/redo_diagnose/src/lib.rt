@@ -1,11 +1,8 @@
 //! What is wrong with each failed target of a build, where, and what to do: told after the build.
 //!
 //! [`diagnoses`] goes by the sources that a build had and by its report alone; the build keeps nothing for it. Of a
-//! script that can't be read it asks redo_script for the place of the fault; a script that failed while it ran is run again
-//! with the outcomes that the report has, and redo_step tells at which command and operand it ended. The crate stands on
-//! redo_record for outcomes, on redo_report for what was built, on redo_which and redo_tree for rules and
-//! sources, on redo_rings for rings, on redo_path for paths, on `strsim` for names that are near, and on `itoa` for
-//! decimal numbers.
+//! script that can't be read it asks redo_script for the place of the fault; a script that failed while it ran is run
+//! again with the outcomes that the report has, and redo_step tells at which command and operand it ended.
 //!
 //! - `diagnosis`: a diagnosis as data; `finding`: those of a report; `behind`: how many targets wait behind a failed one;
 //! - `answers`: the outcomes that a report has; `scripts`: a target's script, read and run again;

@@ -1,7 +1,6 @@
 //! Digests of file contents, by which a build tells whether a file has changed since an earlier run.
 //!
-//! A [`Digest`] is the SHA-256 of a file's bytes; it is spelled by 64 hexadecimal digits and read back from these. It
-//! stands on `sha2` for the digests and on `hex` for what their digits are.
+//! A [`Digest`] is the SHA-256 of a file's bytes; it is spelled by 64 hexadecimal digits and read back from these.
 //!
 //! - `digest`: digests;
 //! - `four`: digests of four contents, made side by side in the `lanes` of vectors, and [`Fours`], which finds them;

@@ -1,8 +1,8 @@
 //! Directories: read as trees, and given the files that a build made.
 //!
-//! [`load_dir`] makes a tree of a directory, and [`store_files`] puts files into one, each whole before it gets its name.
-//! Both reach the file system through [`WorkDir`] alone, of which [`SystemDir`] is the system's; a test has one of its
-//! own. The crate stands on `redo_tree` and `redo_path`, and on `thiserror`.
+//! [`load_dir`] makes a tree of a directory, and [`store_files`] puts files into one, each whole before it gets its
+//! name. Both reach the file system through [`WorkDir`] alone, of which [`SystemDir`] is the system's; a test has one
+//! of its own.
 //!
 //! - `work_dir`: what a run asks of the file system; `changes`: what it changed; `system`: a directory of the system;
 //! - `reading`: the bytes of a file of the system;

@@ -1,7 +1,6 @@
 //! That a tree has one report, and that the books that runs leave can be trusted from run to run.
 //!
-//! The crate stands on redo_rules for what a build over a tree comes to, on redo_run for what is promised of runs, and on
-//! redo_recover for runs that were broken off. Nothing here runs when redo does.
+//! Nothing here runs when redo does.
 //!
 //! - `laws`: these laws, as contracts of functions that do nothing;
 //! - `both`: a build by one thread and the same by many, with the contract that they answer the same.

@@ -10,12 +10,9 @@
 //! on what to do no `help`. `column` and `length` count bytes. `rings`, and the three lists of `notes`, are there where
 //! they are empty, too.
 //!
-//! The text is written token by token with the toolchain's `json`, whose contracts say what text tokens have and that it
-//! reads back as the same tokens. A value of `serde_json` sorts the members of an object by name and stands in memory
-//! whole, while here they stand in the order of the schema. The crate stands on redo_explain for reasons, on
-//! redo_diagnose, redo_rings and redo_notes for failures, rings and notes, on redo_past, redo_report and redo_list for
-//! what is told, on redo_record and redo_which for outcomes, entries and rules, on redo_book for the entries of the last
-//! run, on redo_tree for sources, on redo_path and redo_names for paths, and on `hex` for digests as text.
+//! The text is written token by token with the toolchain's `json`, whose contracts say what text tokens have and that
+//! it reads back as the same tokens. A value of `serde_json` sorts the members of an object by name and stands in
+//! memory whole, while here they stand in the order of the schema.
 //!
 //! - `told`: the text of a report; `list`: that of a list;
 //! - `rows`: a row; `outcomes`: how a target ended; `diagnoses`: what is wrong with it; `entries`: a record;

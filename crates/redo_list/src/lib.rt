@@ -1,6 +1,6 @@
 //! A list of targets that are out of date, as data and in words.
 //!
-//! redo_ood makes it, and redo_page, redo_json and redo_dot show it in other forms. The crate stands on redo_path alone.
+//! redo_ood makes it, and redo_page, redo_json and redo_dot show it in other forms.
 //!
 //! - `listed`: a target in a list; `text`: the lines of a list.
 #![tactic(auto)]

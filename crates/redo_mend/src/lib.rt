@@ -1,11 +1,8 @@
 //! What a run goes on with where the one before it was broken off while it stored its files.
 //!
 //! A run writes its new book as a journal before it stores a file. So where it is broken off the journal stays, and a
-//! file that it stored isn't taken for one of the user's: [`mend`] puts together the book of the journal and the old one,
-//! each file as it is found, and takes the program's own files out of the tree. The crate stands on redo_tree for trees,
-//! on redo_book and redo_past for books and their faults, on redo_dir for the names of the program's own files, on
-//! redo_digest for the digest in those of temporary files, on redo_which for the book's path, and on redo_bundle for
-//! writers.
+//! file that it stored isn't taken for one of the user's: [`mend`] puts together the book of the journal and the old
+//! one, each file as it is found, and takes the program's own files out of the tree.
 //!
 //! - `mending`: the mended tree, and what has to be cleared away; `left`: the files to clear away;
 //! - `own`: the temporary files;

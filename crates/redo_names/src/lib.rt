@@ -3,8 +3,8 @@
 //! A build looks up paths all the time, and whoever writes a tree chooses its names. With a fixed seed, chosen names
 //! can all collide in a hash table; with a random seed, the time for one input would differ from run to run. So the
 //! hash of a path leads to at most eight places, and if others have taken all of these, to an ordered map: a look-up
-//! compares at most eight texts and then descends a tree. Up to eight paths have no places, and a look-up compares each
-//! without a hash. Depends on `redo_path` alone.
+//! compares at most eight texts and then descends a tree. Up to eight paths have no places, and a look-up compares
+//! each without a hash.
 //!
 //! - `set`: [`PathSet`], paths with their numbers; `map`: [`PathMap`], a value for each path;
 //! - `index`: how numbers are stored and found.

@@ -1,10 +1,8 @@
 //! What is stale after a build, or soon will be.
 //!
 //! [`notes`] compares what a run took over from the last one with what the build came to: files that were taken for
-//! sources although a rule would make them, and files of earlier runs that no run makes any more. [`shadowed`] has all
-//! sources that have a rule, without a build, and [`shadowed_within`] those below some places. The crate stands on
-//! redo_past for the former and on redo_report for the latter, on redo_which for the search for a rule, and on the crates
-//! below for what these hold.
+//! sources although a rule would make them, and files of earlier runs that no run makes any more. [`shadowed`] has
+//! all sources that have a rule, without a build, and [`shadowed_within`] those below some places.
 //!
 //! - `kinds`: the three kinds; `asked`: which paths a build has asked for; `finding`: what is found of each kind;
 //! - `text`: the lines.

@@ -1,9 +1,6 @@
 //! What is out of date: the targets that the next run would begin, or may, told without building.
 //!
-//! [`out_of_date`] lists them with their reasons, for every run or for one that requests some paths. It stands on
-//! redo_past for the tree, its sources and its book, on redo_which for rules, on redo_rules for the definition of a
-//! run's checks, on redo_why for what may be told of a run before any script runs, on redo_explain for the words of
-//! reasons, and on redo_list for the form of a list.
+//! [`out_of_date`] lists them with their reasons, for every run or for one that requests some paths.
 //!
 //! - `list`: the list; `told`: what it has of a path; `whys`: why, in words;
 //! - `items`: what the tree alone tells of each entry; `verdicts`: what follows for each record; `words`: what is told of

@@ -1,8 +1,7 @@
 //! A tree as a bundle, for whoever wants to send it or to build it elsewhere, and back.
 //!
-//! [`pack`] writes a tree, of which a directory may hold files that no bundle takes. [`unpack`] makes a tree's directories
-//! and files where there are none. The crate stands on `redo_bundle` for bundles, on `redo_which` for the book's path, on
-//! `redo_tree` and `redo_path`.
+//! [`pack`] writes a tree, of which a directory may hold files that no bundle takes. [`unpack`] makes a tree's
+//! directories and files where there are none.
 //!
 //! - `packing`: a tree as a bundle; `faults`: why there is none;
 //! - `unpacking`: a tree's directories and files; `making`: what is asked of the directory in which they are made;

@@ -9,11 +9,6 @@
 //! is there without the script, which adds a filter, an order and a picture. The policy in the head lets nothing else
 //! run, and nothing be fetched.
 //!
-//! The crate stands on redo_report and redo_record for what is told, on redo_explain for reasons, on redo_past and
-//! redo_tree for what a build went on from, on redo_diagnose for failures, on redo_rings for rings, on redo_notes for
-//! notes, on redo_list for lists, on redo_path and redo_names for paths, on `bstr` for the lines of a text, and on `itoa`
-//! for decimal numbers.
-//!
 //! - `whole`: the page of a report, from `summary`, `failures`, `rings`, `notes` and `rows`; `list`: the page of a list;
 //! - `links`: which row has a path, and which rows need it; `whys`: why scripts were begun;
 //! - `writer`: what is written, and how; `escape`: texts; `parts`: fixed parts, of which `head`, `middle` and `tail`

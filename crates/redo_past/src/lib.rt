@@ -1,10 +1,8 @@
 //! What a run takes over from the one before it, and what it leaves to the next.
 //!
 //! A tree may have a book of the last run, the file `.redo-book` at its top, and generated files. None of these are
-//! sources: [`Past`] has the tree as it was read, the sources in it, and the book. After the run it makes the new book,
-//! which has a record for each target that was built, and the records that are carried from the old book. The crate
-//! stands on redo_tree and redo_which for trees and rules, on redo_digest and redo_book for books and the digests in
-//! them, on redo_record and redo_report for what a run came to, and on redo_bundle for the writers.
+//! sources: [`Past`] has the tree as it was read, the sources in it, and the book. After the run it makes the new
+//! book, which has a record for each target that was built, and the records that are carried from the old book.
 //!
 //! - `past`: the tree, the sources and the book, and what a run leaves; `named`: the files that the book has digests
 //!   of, and those that the new one will have; `hints`: where their records stand; `faults`: why a tree is refused;

@@ -3,8 +3,7 @@
 //! A path is a list of names joined by slashes. No name is empty, `.` or `..`, and the text of the top directory is
 //! empty. So each file has exactly one path, and paths are compared, sorted and stored as bytes. [`resolve`] turns a
 //! word of a script or of the command line into a path, relative to a directory, as redo-ifchange(1) does with its
-//! operands. It reads no disk: `zz/../src` is `src` whatever `zz` is. Depends on `redo_bytes` for storing texts, on
-//! `bstr` for searching bytes and on `thiserror`.
+//! operands. It reads no disk: `zz/../src` is `src` whatever `zz` is.
 //!
 //! - here: [`Path`] and [`PathFault`];
 //! - `text`: splitting a path's text, and limits on its length;

@@ -1,8 +1,7 @@
 //! What the book of the last run knows, building nothing.
 //!
-//! [`answer_to`] answers a [`Question`] over a past: which targets stand as they were left, which sources these depend on,
-//! what a target depends on, and who needs a path. It stands on `redo_past` for the tree and its book, on the crates
-//! below for what these hold, and on `strsim` for the name that is nearest to one that the book doesn't know.
+//! [`answer_to`] answers a [`Question`] over a past: which targets stand as they were left, which sources these
+//! depend on, what a target depends on, and who needs a path.
 //!
 //! - `answers`: questions and answers; `text`: their lines;
 //! - `standing`: targets that stand, and the sources that they depend on; `named`: which paths a record names;

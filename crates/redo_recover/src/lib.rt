@@ -1,8 +1,7 @@
 //! Laws of runs that were broken off while they stored their files. Nothing here runs.
 //!
-//! The specs say what such a run leaves in a directory, what the next run goes on with, and what a directory holds after
-//! each step of storing. [`laws`] has what follows: the sources are those that they were. The crate stands on redo_dir
-//! for the steps, on redo_mend for what is mended, and on redo_rules for what a run comes to.
+//! The specs say what such a run leaves in a directory, what the next run goes on with, and what a directory holds
+//! after each step of storing. [`laws`] has what follows: the sources are those that they were.
 #![tactic(auto)]
 
 pub mod laws;

@@ -1,9 +1,5 @@
 //! What a build came to, as data and as text.
 //!
-//! The crate stands on redo_build for what a report contains, on redo_record for outcomes and records, on redo_which
-//! for the missing candidates of a record, on redo_path, redo_tree and redo_script for what a report spells, on
-//! redo_bundle for the form of files and the writers, and on `itoa` for decimal numbers.
-//!
 //! - `report`: rows, files and begun scripts.
 //! - `text`: the report as text; `lines`: the lines of missing candidates, one record after another.
 #![tactic(auto)]

@@ -1,5 +1,4 @@
-//! What the run after a broken-off one comes to. Nothing here runs: [`laws`] has the law. The crate stands on
-//! redo_recover for what such a run leaves, and on redo_run for what is promised of runs.
+//! What the run after a broken-off one comes to. Nothing here runs: [`laws`] has the law.
 #![tactic(auto)]
 
 pub mod laws;

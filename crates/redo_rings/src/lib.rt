@@ -1,8 +1,7 @@
 //! The rings of a report: which cyclic targets wait for one another.
 //!
-//! [`rings`] goes from each cyclic target to one that it asks for, until it comes to one that it has seen. So it finds a ring
-//! that each leads to. The crate stands on redo_report for what is read, on redo_record for what a target asks for, and on
-//! redo_names and redo_path for paths.
+//! [`rings`] goes from each cyclic target to one that it asks for, until it comes to one that it has seen. So it
+//! finds a ring that each leads to.
 //!
 //! - `ring`: a ring; `finding`: all of a report;
 //! - `graph`: which targets ask for which, by numbers; `choice`: which of them a walk goes on to; `walks`: the walks.

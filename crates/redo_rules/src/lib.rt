@@ -8,11 +8,6 @@
 //! and leaves a true book where the last one was true. redo_core keeps and begins targets by these rules; of what
 //! runs, only the judgement of a single entry is here.
 //!
-//! The crate stands on redo_build for builds and schedules, on redo_skip for what a book is used for, on redo_step
-//! for what a script does, on redo_record for outcomes and records, on redo_which and redo_tree for rules and
-//! sources, on redo_report for what a build came to, on redo_past for what a run takes over, on redo_book and
-//! redo_digest for books and the states in them, on redo_script for the reader, and on redo_path for paths.
-//!
 //! - `laws`: these laws, as contracts of functions that do nothing;
 //! - `standing`: whether a recorded entry stands.
 #![tactic(auto)]

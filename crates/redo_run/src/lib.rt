@@ -4,11 +4,7 @@
 //! and writes the report; [`whichdo_bundle`] writes where the rule of a target is looked for. [`run_dir`] and
 //! [`whichdo_dir`] do the same for a directory; `run_dir` stores into it the files that it doesn't have yet as they
 //! came out, and [`preview_dir`] stores nothing. [`build_many`] is the build alone, with the ledger of its jobs, and
-//! [`build_one`] the same in one thread, without a relay. The crate stands on `redo_build` for what a build is, on
-//! `redo_rules` for that of a tree, on `redo_skip` for when it is safe to keep targets, on `redo_core` for the board,
-//! on `redo_sync` for the relay through which jobs go to workers, on `redo_crew` for who looks for one and who
-//! sleeps, on `crossbeam_channel` for their way back, on `redo_report` for the report and its text, on `redo_tree`,
-//! `redo_bundle` and `redo_dir` for trees and where they come from, and on `redo_which` for the search.
+//! [`build_one`] the same in one thread, without a relay.
 //!
 //! - `one`: a build by one thread; `workers`: by many, or by one through a relay; `owner`: what the thread with the
 //!   board has and does; `crew`: what the workers do; `pool`: the workers, started and not; `pace`: which jobs are worth

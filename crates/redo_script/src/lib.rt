@@ -1,8 +1,8 @@
 //! The parser for build scripts, the `.do` files of redo: from bytes to a syntax tree.
 //!
 //! A script is written in a small subset of the POSIX shell command language. [`parse`] reads exactly the texts of its
-//! grammar, each as its one tree. For any other text it reports the first fault and its line. Depends on `redo_bytes`,
-//! which stores the bytes of literal words. The crates above run scripts.
+//! grammar, each as its one tree. For any other text it reports the first fault and its line. The crates above run
+//! scripts.
 //!
 //! - `ast`: the syntax tree.
 //! - `fault`: what can be wrong with a text.

@@ -1,8 +1,7 @@
 //! A report in few lines, for people: one for each target that was built, failed or is cyclic, and one that counts them.
 //!
-//! [`short_text`] tells of a target what the report tells of it, without its record. Sources and targets that were kept
-//! have no line. The crate stands on redo_report for what is told, on redo_record for outcomes, on redo_diagnose for the
-//! words for why a target failed, and on redo_names and redo_path for paths.
+//! [`short_text`] tells of a target what the report tells of it, without its record. Sources and targets that were
+//! kept have no line.
 //!
 //! - `counts`: how many targets there are of each kind; `lines`: the lines.
 #![tactic(auto)]

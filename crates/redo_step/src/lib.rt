@@ -2,9 +2,6 @@
 //! goes on from there once the answers are known. However often it stops, it comes to what the whole script means with
 //! these answers, and to the same record.
 //!
-//! It stands on redo_path for the paths that words name, on redo_tree for sources, on redo_which for a target's rule
-//! and arguments, on redo_script for the reader, and on redo_record for what a script declares and how it ends.
-//!
 //! - What a script is given: `limits`, `parsed` and `syntax_fault`, `answers`.
 //! - A job and how it goes on: `job`, `machine`, `place`, `halt`.
 //! - Commands, one idea each: `shell` (what they go by), `scene` (what they see besides answers), `scope` (the names

@@ -1,12 +1,11 @@
 //! What the threads of a parallel build share without a lock: write-once cells, and a relay that hands each job to one
 //! worker.
 //!
-//! [`Cells`] are a row of cells. Each is written at most once, by whichever thread publishes first, and read by any; a
-//! [`Known`] is a published value. [`relay`] makes the ends of a relay: a [`JobSource`], which gives jobs, and a
+//! [`Cells`] are a row of cells. Each is written at most once, by whichever thread publishes first, and read by any;
+//! a [`Known`] is a published value. [`relay`] makes the ends of a relay: a [`JobSource`], which gives jobs, and a
 //! [`JobTaker`] for each worker, which takes them. Once the workers have ended, [`gather`] turns the ends into a
-//! [`Ledger`]: each job that was given was taken once, by one taker, or is left. No call waits or takes a lock, so none
-//! needs a handle; the caller brings the threads. Depends on `redo_path` for a job's target, on `once_cell` for the
-//! cells and on `crossbeam_deque` for the queue of jobs.
+//! [`Ledger`]: each job that was given was taken once, by one taker, or is left. No call waits or takes a lock, so
+//! none needs a handle; the caller brings the threads.
 //!
 //! - `cells`: a row of cells, and published values; `knows`: what is known of a cell;
 //! - `source`, `taker`: the ends of a relay; `open`: how they are made;

@@ -1,7 +1,6 @@
 //! A tree of directories and files below one top directory, as a build reads it.
 //!
-//! A [`Tree`] has the kind of entry at each path and the bytes of each file. Depends on `redo_path`, on `redo_bytes`
-//! for contents of files, on `redo_digest` for their digests, on `redo_names` for look-ups and on `thiserror`.
+//! A [`Tree`] has the kind of entry at each path and the bytes of each file.
 //!
 //! - `entries`: the tree, and adding to it; `content`: a file's bytes, which clones share, and their digest;
 //! - `parting`: taking files out of a tree; `digests`: making and keeping digests; `file_digests`: digests made on

@@ -3,9 +3,9 @@
 //! The candidates for a target `D/name` are those that redo-whichdo(1) prints. First comes `D/name.do`. Then come, in
 //! `D` and each directory above it, `default<suffix>.do` for each suffix of the name that begins at a dot, longest
 //! first, and `default.do`. The first candidate that is a file of the tree is the rule. The search ends at the top
-//! directory. Names that end in `.do`, the top directory, and the book ([`BOOK`]) and the journal ([`JOURNAL`]) there have
-//! no candidates. A candidate too long for a path is left out, and one that occurs twice keeps its first place only.
-//! Depends on `redo_path` and `redo_tree`.
+//! directory. Names that end in `.do`, the top directory, and the book ([`BOOK`]) and the journal ([`JOURNAL`]) there
+//! have no candidates. A candidate too long for a path is left out, and one that occurs twice keeps its first place
+//! only.
 //!
 //! - here: the result of a search, as plain data;
 //! - [`lookup`]: the search; `args`: the arguments of a script;

@@ -10,9 +10,6 @@
 //! is begun. A list that knows no request tells of a run if nothing is requested that the target rests on, or if the
 //! book is honest; verdicts that know the request tell of its run, whatever the book says.
 //!
-//! The crate stands on redo_skip and redo_build for builds with a book and without, on redo_book and redo_digest for
-//! books and the states in them, on redo_record for outcomes, and on redo_path and redo_names for paths.
-//!
 //! - `laws`: all of this, as contracts of functions that do nothing.
 #![tactic(auto)]
 
