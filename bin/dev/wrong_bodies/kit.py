@@ -3,6 +3,7 @@
 import contextlib
 import importlib.machinery
 import os
+import re
 import shutil
 import signal
 import subprocess
@@ -14,6 +15,9 @@ from .edits import GATE, MUST_FAIL
 from .judging import Said
 
 sys.dont_write_bytecode = True
+
+# What rt ci says of a crate that it has proved, or had proved before.
+DONE = re.compile(r"rt: (\w+) (proved|is kept: .*)")
 
 
 class Kit:
@@ -61,8 +65,9 @@ class Kit:
         self.lib.guarded()
 
     def check(self, crate, texts, only=()):
-        """Checks the crate from nothing with these texts in place of its own, whole or these functions alone."""
-        words = [self.lib.RATTLE, "check", *crate.words(["--jobs", "1"], keeps=False)]
+        """Checks the crate from nothing with these texts in place of its own, whole or these functions alone. Proofs
+        that others wait for go first."""
+        words = ["nice", "-n", "19", self.lib.RATTLE, "check", *crate.words(["--jobs", "1"], keeps=False)]
         words += [word for name in only for word in ("--only", name)]
         with tempfile.TemporaryDirectory(prefix="check-", dir=os.path.dirname(os.path.dirname(crate.folder))) as room:
             for part in self.lib.PARTS:
@@ -73,19 +78,22 @@ class Kit:
                     file.write(text)
             return self.run(words, room)
 
-    def run(self, words, folder):
-        """Runs a command. Answers its status, what it wrote, and its processor time."""
+    def run(self, words, folder, each=lambda line: None):
+        """Runs a command. Answers its status, what it wrote, and its processor time. `each` is told each line."""
         if self.is_stopped:
             return Said(-signal.SIGTERM, "", 0)
         how = {"cwd": folder, "stdin": subprocess.DEVNULL, "stderr": subprocess.STDOUT, "errors": "replace"}
         child = subprocess.Popen([*self.lib.guarded(), *words], stdout=subprocess.PIPE, text=True, **how)
         self.running.add(child)
+        lines = []
         with child.stdout:
-            text = child.stdout.read()
+            for line in child.stdout:
+                lines.append(line)
+                each(line)
         self.running.discard(child)
         _, ended, used = os.wait4(child.pid, 0)
         child.returncode = os.waitstatus_to_exitcode(ended)
-        return Said(child.returncode, text, used.ru_utime + used.ru_stime)
+        return Said(child.returncode, "".join(lines), used.ru_utime + used.ru_stime)
 
     def stop(self):
         """Ends what runs, and begins nothing more."""
@@ -93,15 +101,16 @@ class Kit:
         for child in [*self.running]:
             child.terminate()
 
-    def prove(self, top):
-        """Proves all crates of a repository, or takes what was proved of the same files before."""
-        return self.run([self.program, "ci"], top)
+    def prove(self, top, each):
+        """Proves all crates of a repository, or takes what was proved of the same files before. `each` is told the name
+        of each crate as soon as it is proved."""
 
+        def told(line):
+            done = DONE.match(line)
+            if done:
+                each(done[1])
 
-def is_proved(crate):
-    """Whether rt ci has proved the crate where it stands."""
-    made = crate.name if crate.is_program else f"rlib/{crate.name}.rlib/format"
-    return os.path.isfile(f"{crate.folder}/out/{made}")
+        return self.run([self.program, "ci"], top, told)
 
 
 def with_below(crates):

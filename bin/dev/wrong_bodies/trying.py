@@ -4,6 +4,7 @@ are processors, and memory for; the longest begin first."""
 import signal
 from concurrent.futures import FIRST_COMPLETED, ThreadPoolExecutor, wait
 from dataclasses import dataclass
+from queue import SimpleQueue
 from threading import Lock
 
 from . import judging
@@ -23,19 +24,42 @@ class Task:
     call: object
 
 
-def in_lanes(tasks, number, memory):
-    """Runs tasks, so many at a time, and those that come of them."""
-    left, running = [*tasks], {}
+class Coming:
+    """Tasks that come while others run, put by another thread, until it says that these are all."""
+
+    def __init__(self):
+        self.queue, self.is_open = SimpleQueue(), True
+
+    def put(self, tasks):
+        self.queue.put(tasks)
+
+    def end(self):
+        self.queue.put(None)
+
+    def take(self, is_idle):
+        """The tasks that have come since, waiting for some where nothing else is to be done."""
+        found = []
+        while self.is_open and (not self.queue.empty() or is_idle and not found):
+            tasks = self.queue.get()
+            self.is_open = tasks is not None
+            found += tasks or []
+        return found
+
+
+def in_lanes(coming, number, memory):
+    """Runs tasks as they come, so many at a time, and those that come of them."""
+    left, running = [], {}
     pool = ThreadPoolExecutor(number)
     try:
-        while left or running:
+        while left or running or coming.is_open:
+            left += coming.take(not left and not running)
             left.sort(key=lambda it: -it.lines)
             for task in [*left]:
                 room = memory - sum(it.memory for it in running.values())
                 if len(running) < number and (not running or task.memory <= room):
                     left.remove(task)
                     running[pool.submit(task.call)] = task
-            for it in wait(running, return_when=FIRST_COMPLETED).done:
+            for it in wait(running, 1 if coming.is_open else None, FIRST_COMPLETED).done:
                 del running[it]
                 left += it.result()
     finally:
