@@ -1,16 +1,19 @@
 //! Which files are dead.
 
-ghost use Rattle.std.specs.Prelude.{◌≡◌, [], List, ℕ, None, IfOk, false, filter, map, not};
+ghost use Rattle.std.specs.Prelude.{◌≡◌, [], List, ℕ, None, IfOk, false, filter_map, map};
 ghost use Rattle.redo_names.specs.Paths.{is_among};
 ghost use Rattle.redo_report.specs.Reports.{row_paths};
-ghost use Rattle.redo_dead.specs.Dead.{dead_files, is_untold as is_not_told};
+ghost use Rattle.redo_book.specs.Book.{record_of};
+ghost use Rattle.redo_dead.specs.Dead.{dead_files};
+ghost use Rattle.redo_dead.specs.inside.Files.{dead_file};
 
-use redo_clean::{CleanPlan, plan};
+use redo_book::BookRecord;
+use redo_clean::{CleanPlan, generated_at};
 use redo_names::PathSet;
 use redo_past::Past;
 use redo_path::Path;
 use redo_report::{Report, Row};
-use redo_tree::Content;
+use redo_tree::{Content, Tree};
 use std::alloc::{AllocError, Global};
 
 /// The paths of rows.
@@ -24,27 +27,28 @@ fn paths_of(alloc: Global, rows: &[Row]) -> Result<PathSet, AllocError>
     Ok(paths)
 }
 
-/// Whether a file's path is none of these.
-fn is_untold(told: &PathSet, file: &(Path, Content)) -> bool
-    ensures { result ≡ is_not_told (is_among told.now) file.now }
+/// The file at a record's target, if it is generated and the target isn't one of these.
+fn dead_at(
+    told: &PathSet,
+    tree: &Tree,
+    made: &BookRecord,
+) -> Result<Option<(Path, Content)>, AllocError>
+    ensures { IfOk result (λ file. file ≡ dead_file (is_among told.now) tree.now (record_of made.now)) }
 {
-    !told.contains(&file.0)
+    if told.contains(&made.target) {
+        return Ok(None);
+    }
+    generated_at(tree, made)
 }
 
-/// Those of some files whose paths are none of these.
-fn untold(
-    alloc: Global,
-    told: &PathSet,
-    files: &[(Path, Content)],
-) -> Result<Vec<(Path, Content)>, AllocError>
-    ensures { IfOk result (λ dead. dead.items ≡ filter (is_not_told (is_among told.now)) files.now) }
+/// The generated files of a past whose paths are none of these, in path order.
+fn untold(alloc: Global, told: &PathSet, past: &Past) -> Result<Vec<(Path, Content)>, AllocError>
+    ensures { IfOk result (λ dead. dead.items ≡ filter_map (dead_file (is_among told.now) past.now.tree) past.now.book) }
 {
     let mut dead = Vec::new(alloc);
-    for file in files {
-        if is_untold(told, file) {
-            let path = file.0.clone()?;
-            let content = file.1.clone()?;
-            dead.push((path, content))?;
+    for made in past.book().records() {
+        if let Some(file) = dead_at(told, past.tree(), made)? {
+            dead.push(file)?;
         }
     }
     Ok(dead)
@@ -60,8 +64,7 @@ pub fn dead_plan(alloc: Global, past: &Past, report: &Report) -> Result<CleanPla
     ensures left { IfOk result (λ plan. plan.left ≡ None) }
 {
     let told = paths_of(alloc, &report.rows)?;
-    let whole = plan(alloc, past, None, false)?;
-    let generated = untold(alloc, &told, &whole.generated)?;
+    let generated = untold(alloc, &told, past)?;
     Ok(CleanPlan {
         left: None,
         over: false,

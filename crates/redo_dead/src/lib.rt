@@ -1,4 +1,4 @@
-//! The files that builds left and that a build needs no more.
+//! Built files that a build no longer needs.
 //!
 //! A build leaves the file of a target that nothing asks for any more: it removes none. [`dead_plan`] finds these
 //! files by the report of a build, as the plan of a clean that removes them alone.
