@@ -5,7 +5,7 @@ ghost use Rattle.std.specs.Prelude.{◌≡◌};
 use crate::Broken;
 use redo_path::PathFault;
 use redo_tree::TreeFault;
-use std::alloc::{AllocError, AllocFailed};
+use std::alloc::AllocError;
 use thiserror::Error;
 
 /// Why a bundle was refused. Headers are numbered from 1; `end` and a byte after it count on.
@@ -51,16 +51,6 @@ impl From<AllocError> for BundleFault {
     }
 }
 
-impl<T: Drop> From<AllocFailed<T>> for BundleFault {
-    ghost use Rattle.redo_bundle.specs.declared.faults.BundleFault.TheVariants.{Memory};
-
-    ghost from_gives = { λ _ fault. fault ≡ Memory };
-
-    fn from(_error: AllocFailed<T>) -> BundleFault {
-        BundleFault::Memory
-    }
-}
-
 /// Why a bundle was not written. A prefix of its text has been written.
 #[derive(Clone, Copy, Debug, PartialEq, Eq, Error)]
 pub enum WriteFault {
@@ -88,16 +78,6 @@ impl From<AllocError> for WriteFault {
     ghost from_gives = { λ _ fault. fault ≡ Memory };
 
     fn from(_error: AllocError) -> WriteFault {
-        WriteFault::Memory
-    }
-}
-
-impl<T: Drop> From<AllocFailed<T>> for WriteFault {
-    ghost use Rattle.redo_bundle.specs.declared.faults.WriteFault.TheVariants.{Memory};
-
-    ghost from_gives = { λ _ fault. fault ≡ Memory };
-
-    fn from(_error: AllocFailed<T>) -> WriteFault {
         WriteFault::Memory
     }
 }

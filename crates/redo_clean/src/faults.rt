@@ -4,7 +4,7 @@ ghost use Rattle.std.specs.Prelude.{◌≡◌};
 
 use redo_dir::StoreFault;
 use redo_path::Path;
-use std::alloc::{AllocError, AllocFailed};
+use std::alloc::AllocError;
 use std::io::ErrorKind;
 use thiserror::Error;
 
@@ -29,16 +29,6 @@ impl From<AllocError> for CleanFault {
     ghost from_gives = { λ _ fault. fault ≡ Memory };
 
     fn from(_error: AllocError) -> CleanFault {
-        CleanFault::Memory
-    }
-}
-
-impl<T: Drop> From<AllocFailed<T>> for CleanFault {
-    ghost use Rattle.redo_clean.specs.declared.faults.CleanFault.TheVariants.{Memory};
-
-    ghost from_gives = { λ _ fault. fault ≡ Memory };
-
-    fn from(_error: AllocFailed<T>) -> CleanFault {
         CleanFault::Memory
     }
 }

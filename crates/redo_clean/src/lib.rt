@@ -17,5 +17,5 @@ mod text;
 pub use cleaning::clean;
 pub use fate::Fate;
 pub use faults::CleanFault;
-pub use planning::{CleanPlan, plan};
+pub use planning::{CleanPlan, generated_at, plan};
 pub use text::{cleaned_text, planned_text};

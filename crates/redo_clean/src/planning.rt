@@ -45,7 +45,7 @@ fn is_changed(tree: &Tree, made: &BookRecord) -> bool
 }
 
 /// The file at a record's target, if it is generated.
-fn generated_at(tree: &Tree, made: &BookRecord) -> Result<Option<(Path, Content)>, AllocError>
+pub fn generated_at(tree: &Tree, made: &BookRecord) -> Result<Option<(Path, Content)>, AllocError>
     ensures { IfOk result (λ file. file ≡ generated_file tree.now (record_of made.now)) }
 {
     if !is_generated(tree, made) {

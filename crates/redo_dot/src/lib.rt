@@ -8,8 +8,8 @@
 //! [`list_dot`] draws each listed target as a box: black if a run begins its script, grey if it may be kept, red if it
 //! has no rule any more, and orange if it waits for itself or a ring. Edges lead from one listed target to another.
 //!
-//! A name stands in quotes as a label shows it. Of a path that isn't UTF-8, each byte from 128 shows as the character
-//! of that number.
+//! A name stands in quotes as a label shows it. In a path that isn't UTF-8, each byte from 128 on shows as the
+//! character with that number.
 //!
 //! - `graph`: the whole text of a report; `edges`: the edges of a record; `list`: the text of a list;
 //! - `names`: names in quotes.

@@ -4,11 +4,11 @@
 //! record, whether its script was begun and why; rings; notes; and a summary. [`list_json`] tells a list in the same
 //! form. `docs/report.schema.json` is the schema of both.
 //!
-//! A value that a row doesn't have is left out: `bytes` where there is no file, `reason` and `line` where nothing failed
-//! or no line is named, `diagnosis` where there is none, `why` where the script wasn't begun, `path_hex` where the path
-//! is UTF-8. A diagnosis without a place has neither `file`, `line`, `column`, `length` nor `text`, and one without words
-//! on what to do no `help`. `column` and `length` count bytes. `rings`, and the three lists of `notes`, are there where
-//! they are empty, too.
+//! A value that a row doesn't have is left out: `bytes` where there is no file, `reason` and `line` where nothing
+//! failed or no line is named, `diagnosis` where there is none, `why` where the script wasn't begun, `path_hex` where
+//! the path is UTF-8. A diagnosis without a place has neither `file`, `line`, `column`, `length` nor `text`, and one
+//! without words on what to do no `help`. `column` and `length` count bytes. `rings`, and the three lists of `notes`,
+//! are there where they are empty, too.
 //!
 //! The text is written token by token with the toolchain's `json`, whose contracts say what text tokens have and that
 //! it reads back as the same tokens. A value of `serde_json` sorts the members of an object by name and stands in

@@ -26,8 +26,8 @@ pub struct Told<'a> {
     pub status: u8,
     /// The paths that were requested.
     pub request: &'a [Path],
-    /// Each is told in the row of its target; one whose target has no row isn't. Lines and columns count from 1, columns
-    /// and lengths in bytes.
+    /// Each is told in the row of its target; one whose target has no row isn't. Lines and columns count from 1,
+    /// columns and lengths in bytes.
     pub diagnoses: &'a [Diagnosis],
     pub rings: &'a [Ring],
     /// All of them are told.

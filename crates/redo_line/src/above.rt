@@ -77,7 +77,7 @@ pub(crate) fn place_of<H: Runtime>(
     })
 }
 
-/// How many levels above a directory the nearest one is that has a book, if one has.
+/// The number of levels from a directory up to the nearest one above it with a book, if there is one.
 pub fn levels_to_book<H: Runtime>(rt: &H, alloc: Global, dir: &str) -> Option<usize> {
     let Ok(place) = fs::canonicalize(rt, SystemPath::new(dir)) else {
         return None;
@@ -109,8 +109,8 @@ fn from_dir<H: Runtime>(
     }
 }
 
-/// What to say in place of a word that names no target, if that is known: an absolute path from the top, and of one that
-/// leads above it that a book stands there.
+/// A hint for a word that names no target, if there is one: how an absolute path is named from the top, or that there
+/// is a book above the top.
 pub(crate) fn instead_of<H: Runtime>(
     rt: &H,
     alloc: Global,

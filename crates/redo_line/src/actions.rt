@@ -32,7 +32,7 @@ pub enum Input {
 pub enum Format {
     /// Its own.
     Report,
-    /// Few lines: what was built or failed, and how much. A list is as it is in its own.
+    /// A few lines: what was built or failed, and the counts. A list has its own form.
     Short,
     /// An object of JSON, without files.
     Json,
@@ -50,7 +50,7 @@ pub struct BuildOptions {
     /// How many scripts may run side by side, 1 to 64.
     pub workers: usize,
     pub limits: Limits,
-    /// At or below which places sources that have a rule are taken back.
+    /// Places at or below which sources that have a rule are taken back.
     pub take: Vec<Path>,
     pub input: Input,
     pub storing: Storing,
@@ -67,7 +67,7 @@ pub struct BuildOptions {
     ghost few_workers: { workers ≤ 64 },
 }
 
-/// Of which run what is out of date is listed, and how.
+/// A list of what is out of date: for which run, and in which form.
 #[derive(Drop)]
 pub struct Listing {
     /// What the run requests; nothing, where the list is for every run.
@@ -78,7 +78,7 @@ pub struct Listing {
     pub format: Format,
 }
 
-/// A question to the book, and of which tree.
+/// A question to the book of a tree.
 #[derive(Drop)]
 pub struct Query {
     pub question: Question,
@@ -87,7 +87,7 @@ pub struct Query {
     pub workers: usize,
 }
 
-/// Of which tree the sources are listed that have a rule.
+/// A list of a tree's sources that have a rule.
 #[derive(Drop)]
 pub struct Shadows {
     pub input: Input,
@@ -95,7 +95,7 @@ pub struct Shadows {
     pub workers: usize,
 }
 
-/// Which directory is printed as a bundle.
+/// A directory to be printed as a bundle.
 #[derive(Drop)]
 pub struct Packing {
     pub dir: String,
@@ -103,7 +103,7 @@ pub struct Packing {
     pub workers: usize,
 }
 
-/// Which directory is cleaned, and how.
+/// A clean of a directory.
 #[derive(Drop)]
 pub struct Cleaning {
     pub dir: String,
@@ -113,14 +113,14 @@ pub struct Cleaning {
     pub dry_run: bool,
 }
 
-/// Of which build what it doesn't need is listed, or removed.
+/// A list, or the removal, of what a build doesn't need.
 #[derive(Drop)]
 pub struct Dead {
     /// The build, which is tried out.
     pub build: BuildOptions,
-    /// Whether it is removed.
+    /// Whether the files are removed, not listed.
     pub cleaned: bool,
-    /// Whether nothing is removed, but said what would be.
+    /// Whether the removal is only tried out: what would be removed is printed.
     pub dry_run: bool,
 }
 
@@ -146,7 +146,7 @@ pub enum Action {
     Pack(Packing),
     /// A bundle on standard input becomes a directory.
     Unpack(String),
-    /// What the last run left in a directory is removed.
+    /// What the previous run left in a directory is removed.
     Clean(Cleaning),
     /// What builds left and a build doesn't need is listed, or removed.
     Dead(Dead),

@@ -26,8 +26,8 @@ const FILE_BYTES: u32 = 16_777_216;
 /// The most scripts that may run side by side.
 const MOST_JOBS: usize = 64;
 
-/// Refuses words that ask for nothing that could be done. Of several refusals it returns the first in the order of the
-/// enum.
+/// Refuses words that ask for nothing that could be done. If there are several reasons, returns the first one that it
+/// finds.
 pub(crate) fn check(line: &Line<'_>) -> Result<(), Refusal> {
     if !commands::is_given(line) && !line.has(KEEP_GOING) {
         return Err(Refusal::NoKeepGoing);
@@ -190,7 +190,7 @@ fn named(alloc: Global, line: &Line<'_>, below: &Path) -> Result<Vec<Path>, Refu
     paths_of(alloc, line.targets(), below)
 }
 
-/// What leads from where the user is to the top, with a slash behind it; nothing if that is where the user is.
+/// The path from where the user is to the top, with a slash at its end; nothing if the user is at the top.
 fn to_top(alloc: Global, line: &Line<'_>, below: &Path) -> Result<Vec<u8>, AllocError> {
     let mut way = Vec::new(alloc);
     if line.has(TOP) {

@@ -71,7 +71,7 @@ fn parse<'w>(
     }
 }
 
-/// What the words in the environment say, if there are any. Where they are refused, it is said where they come from.
+/// Parses the words in the environment, if there are any. A refusal also shows where they come from.
 fn parse_flags<'w>(
     rt: &HostRuntime,
     alloc: Global,

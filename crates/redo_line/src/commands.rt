@@ -1,4 +1,4 @@
-//! The options that say what is done in place of a build, and which options don't go together.
+//! The options that replace a build, and which options don't go together.
 
 use crate::asked::target;
 use crate::line::{Line, Named};
@@ -60,7 +60,7 @@ pub(crate) const VERBOSE: Named = Named("verbose", "-v");
 
 pub(crate) const QUIET: Named = Named("quiet", "-q");
 
-/// What is done in place of a build. Each of these options excludes the others, but for a clean of what is dead.
+/// The options that replace a build. Each excludes the others, except that `--clean` goes with `--dead`.
 static COMMANDS: [Named; 11] = [
     WHICHDO, TARGETS, SOURCES, DEPS, RDEPS, OOD, SHADOWED, PACK, UNPACK, CLEAN, DEAD,
 ];
@@ -220,7 +220,7 @@ pub(crate) fn question_of(
     }
 }
 
-/// The words behind these options that name a path.
+/// The word of `--whichdo`, `--deps` or `--rdeps`, if one of them is given: it is to name a path.
 pub(crate) fn word_of<'a>(line: &Line<'a>) -> Option<&'a str> {
     for option in [WHICHDO, DEPS, RDEPS] {
         if let Some(word) = line.word(option) {
@@ -263,7 +263,7 @@ fn is_excluded(matches: &ArgMatches<'_>, option: Named) -> bool {
     })
 }
 
-/// Whether an option is one of builds, and these words ask for something in place of a build that doesn't take it.
+/// Whether an option belongs to builds, and these words have a command that replaces the build and doesn't take it.
 fn is_out_of_place(matches: &ArgMatches<'_>, option: Named) -> bool {
     let is_of_builds = OF_BUILDS.iter().any(|other| is_same(option, *other));
     is_of_builds

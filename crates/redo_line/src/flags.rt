@@ -10,7 +10,7 @@ use std::env::VarError;
 /// The name of the variable.
 pub(crate) const NAME: &str = "REDOFLAGS";
 
-/// The words of the variable, behind a name for the program. There are no others where it isn't there.
+/// The variable's name, in place of the program's, and the words of the variable, if it is set.
 pub(crate) fn words(rt: &HostRuntime, alloc: Global) -> Result<Vec<String>, Refusal> {
     let mut words = Vec::new(alloc);
     words.push(String::from_str(alloc, NAME)?)?;
@@ -39,8 +39,8 @@ pub(crate) fn shown(alloc: Global, words: &[String]) -> Result<String, AllocErro
     Ok(text)
 }
 
-/// Refuses what can't stand there: targets, what is done in place of a build, what is taken back, since that is wanted once,
-/// and options that don't go together.
+/// Refuses what can't stand there: targets, options that replace a build, `--take`, which is wanted only once, and
+/// options that don't go together.
 pub(crate) fn check(flags: &ArgMatches<'_>) -> Result<(), Refusal> {
     if flags.contains_id("targets") {
         return Err(Refusal::TargetsBeside(NAME));

@@ -8,7 +8,7 @@ use std::alloc::{AllocError, Global};
 /// The forms in which a report or a list is printed.
 static FORMATS: [&str; 5] = ["report", "short", "json", "dot", "html"];
 
-/// Of several uses the last counts, so that an alias may have the option.
+/// If it is given several times, the last one counts, so that an alias may have it.
 fn jobs<'a>(alloc: Global) -> Arg<'a> {
     Arg::new(alloc, "jobs")
         .short('j')

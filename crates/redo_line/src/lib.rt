@@ -1,13 +1,13 @@
 //! The command line of `redo`: its forms, which options go together, and what they ask for.
 //!
-//! [`read_call`] reads the words of a call, and those of `REDOFLAGS` in front of them, and answers what is to be done
-//! ([`Action`]) and how much is said of it ([`Voice`]). It tells a refusal itself.
+//! [`read_call`] reads the words of a call, and those of `REDOFLAGS` in front of them, and returns what to do
+//! ([`Action`]) and how much to show of it ([`Voice`]). It shows a refusal itself.
 //!
 //! - `call`: a call's words, read and checked; `line`: what they say, by option;
 //! - `forms`: the options that the parser knows; `commands`: what is done in place of a build, and which options
 //!   exclude each other; `flags`: the words of `REDOFLAGS`;
 //! - `asked`: what the words ask for, as `actions` has it; `above`: the directory that a run is over;
-//! - `refusal`: why words are refused; `refusing`: how that is told; `status`: exit statuses;
+//! - `refusal`: why words are refused; `refusing`: how that is shown; `status`: exit statuses;
 //! - `voice`: how much is said on standard error; `screen`: what standard error is.
 #![tactic(auto)]
 

@@ -29,8 +29,8 @@ impl<'a> Line<'a> {
         option.is_in(&self.own)
     }
 
-    /// Whether an option is given, here or in the environment. What the command line says goes over what the environment
-    /// says: an option there counts only beside what it goes with.
+    /// Whether an option is given, on the command line or in the environment. The command line prevails: an option in
+    /// the environment counts only if it goes with those of the command line.
     pub(crate) fn has(&self, option: Named) -> bool {
         self.has_own(option) || self.in_flags(option).is_some()
     }

@@ -1,4 +1,4 @@
-//! How a refused command line is told.
+//! The messages for a refused command line.
 
 ghost use Rattle.std.specs.Prelude.{◌≡◌, true};
 ghost use Rattle.redo_line.specs.Calls.{is_of_no_call};
@@ -19,8 +19,8 @@ use std::alloc::{AllocError, Global};
 /// A cause in words, or `None` if no more is known than the message says.
 type Words = Result<Option<String>, AllocError>;
 
-/// The target word that is refused, and why, and what to say in its place, if that is known. If memory ran out in the
-/// search for it, nothing is known.
+/// The refused target word, why it is refused, and what to say instead, if that is known. If memory ran out in the
+/// search for it, there is no cause.
 fn of_target(alloc: Global, bad: Option<(&str, PathFault)>, instead: Option<String>) -> Words {
     let Some((word, why)) = bad else {
         return Ok(None);
@@ -42,7 +42,7 @@ fn of_no_keep_going(alloc: Global) -> Words {
     )?))
 }
 
-/// Shows a cause behind a message, if it is known and there is memory for its words.
+/// Shows the cause of a message, if it is known and memory suffices for its words.
 pub(crate) fn show_cause<E: Drop>(rt: &HostRuntime, cause: Result<Option<String>, E>) {
     if let Ok(Some(words)) = cause {
         let _shown = eprintln!(rt; "redo: {words}");
@@ -92,7 +92,7 @@ pub(crate) fn refuse_call(rt: &HostRuntime, alloc: Global, refusal: Refusal, lin
     status
 }
 
-/// The text of a refusal. What no terminal shows of the words that it repeats is written out.
+/// The text of a refusal. Escapes unprintable characters of the words that it repeats.
 fn text_of_error(alloc: Global, error: &Error) -> Result<Vec<u8>, AllocError> {
     let text = format!(in alloc; "{error}")?;
     shown_lines(alloc, text.as_bytes())

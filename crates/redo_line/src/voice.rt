@@ -21,13 +21,13 @@ pub(crate) struct Screen {
 pub struct Voice {
     /// A message is followed by its cause.
     pub causes: bool,
-    /// What is wrong with failed targets is told, and what is stale is noted.
+    /// Diagnoses and notes are shown.
     pub notes: bool,
-    /// What no later run could tell is told.
+    /// What no later run could notice is shown.
     pub warnings: bool,
-    /// It is told what a build came to: standard error is a terminal.
+    /// The summary is shown: standard error is a terminal.
     pub summary: bool,
-    /// The progress of a build is shown, in a line that is written over.
+    /// Progress is shown, in a line that is overwritten.
     pub progress: bool,
     /// Notes are coloured.
     pub colour: bool,

@@ -55,7 +55,8 @@ fn follow(alloc: Global, past: &Past, found: &mut PathSet, path: &Path) -> Resul
     }
 }
 
-/// The requested paths, and what they rest on. Each that is found is followed once, in the order in which they were found.
+/// The requested paths, and what they rest on. Each that is found is followed once, in the order in which they were
+/// found.
 fn resting(alloc: Global, past: &Past, request: &[Path]) -> Result<PathSet, AllocError>
     ensures { IfOk result (λ found. (limits : LimitsView) (p : List ℕ) →
         (is_among found p ≡ true) ↔ RestsOn (run_over past.now request.now limits) p) }

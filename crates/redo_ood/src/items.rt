@@ -26,8 +26,8 @@ fn holds_if(holds: bool) -> RowItem
     }
 }
 
-/// A `change` of a target with a rule. Its script is begun unless it is in check: it isn't requested, and is as the last
-/// run left it.
+/// A `change` of a target with a rule. Its script is begun unless it is in check: it isn't requested, and is as the
+/// previous run left it.
 fn target_item(past: &Past, requested: &PathSet, state: &Option<Digest>, path: &Path) -> RowItem
     requires source { file_at past.now.sources path.now ≡ None }
     requires script { is_do_file path.now ≡ false }

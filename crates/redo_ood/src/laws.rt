@@ -22,16 +22,16 @@ ghost use Rattle.redo_ood.specs.Listing.{IsList, IsRingOf, RestsOn, word_with};
 
 use redo_why::laws::verdicts_tell_of_this_run;
 
-/// Without a request a list tells of every run: what it says of a record's target is what redo_why lists, so the laws of
-/// that crate tell of it.
+/// Without a request a list tells of every run: what it says of a record's target is what redo_why lists, so the laws
+/// of that crate tell of it.
 pub fn a_list_tells_of_every_run()
     ensures { (s : Sources) (last : LastRun) (r : Record) → record_at last.book r.target ≡ Some r →
         word_with s last [] r ≡ listed s last r.target }
 {}
 
-/// With a request a word tells of the run that requests it and keeps to the limit, whatever the book says. Of a target
-/// that is in check and that the run needs: where it isn't listed, it is kept; where the run begins its script, it is
-/// listed, as stale or maybe; and as a ring it is cyclic, and isn't begun.
+/// With a request a word tells of the run that requests it and keeps to the limit, whatever the book says. A target
+/// that is in check and that the run needs is kept if it isn't listed. If the run begins its script, it is listed, as
+/// stale or maybe. If it is listed as a ring, it is cyclic, and isn't begun.
 pub fn a_word_tells_of_its_run()
     ensures kept { (s : Sources) (last : LastRun) (request : List (List ℕ)) (limit : ℕ) → AreLawful (without_book s) →
         IsGood s → length (needed_at (rules_with s last request) request limit) ≤ limit → (r : Record) →
@@ -52,10 +52,10 @@ pub fn a_word_tells_of_its_run()
     verdicts_tell_of_this_run();
 }
 
-/// A list tells of the report of its run, whatever the book says. What the run needs is what the request rests on, or what
-/// no list can know, as a script that is begun is the first to ask for it. What it begins is requested, or is listed as
-/// stale, maybe or new, or is such an unforeseen target. What the request rests on and isn't listed is kept, unless it is
-/// requested; and what is listed as a ring is cyclic.
+/// A list tells of the report of its run, whatever the book says. What the run needs is what the request rests on, or
+/// what no list can know, as a script that is begun is the first to ask for it. What it begins is requested, or is
+/// listed as stale, maybe or new, or is such an unforeseen target. What the request rests on and isn't listed is
+/// kept, unless it is requested; and what is listed as a ring is cyclic.
 pub fn a_list_tells_of_its_run()
     ensures known { (given : GivenView) (report : Report) →
         IsReport (rules_for given) given.request given.limits.targets report → (p : List ℕ) → IsNeededIn given p →
@@ -75,8 +75,8 @@ pub fn a_list_tells_of_its_run()
     a_word_tells_of_its_run();
 }
 
-/// A requested path is passed over only if it is a source, or a target with a record of which all holds. Without a record
-/// a target is listed as new, and what is neither a source nor a target as unknown.
+/// A requested path is left out only if it is a source, or a target whose whole record stands. Without a record, a
+/// target is listed as new, and what is neither a source nor a target as unknown.
 pub fn a_requested_path_is_listed()
     ensures silent { (given : GivenView) (listed : List ListedView) → IsList given listed → (p : List ℕ) →
         IsAmong given.request p → (IsListed listed p → ⊥) → ((sources_for given).is_source p ≡ true) ⊎ ((r : Record) ×

@@ -85,11 +85,12 @@ fn list_of(alloc: Global, outlook: &Outlook<'_>, asked: &[Path]) -> Result<Vec<L
     Ok(listed)
 }
 
-/// Lists the targets that the next run begins if it needs them, or may, and those that can't be made, in path order;
-/// nothing if all are up to date. Without a request it tells of every run and of all targets of the book, each of which is
-/// taken not to be requested. With a request it tells of the run that requests these paths, of these paths and of what
-/// they rest on by the records: a requested target is listed by its own record, as any other, though the run begins it in
-/// any case, and what rests on one may come out otherwise; and what has no record is listed, too.
+/// Lists, in path order, the targets that the next run would or may begin if it needs them, and those that can't be
+/// made; nothing if all are up to date. Without a request the list covers all targets of the book, each for every run
+/// that doesn't request it. With a request it is for the run that requests these paths, and covers them and what they
+/// rest on by the records. A requested target is listed by its own record, like any other, though the run begins it
+/// in any case; what rests on it may come out otherwise. Without a record, a target is listed, too, and so is a
+/// requested path that is no file and has no rule.
 pub fn out_of_date(alloc: Global, past: &Past, request: &[Path]) -> Result<Vec<Listed>, AllocError>
     ensures { IfOk result (λ listed. (limits : LimitsView) →
         IsList (run_over past.now request.now limits) (map listed_view listed.items)) }

@@ -1,13 +1,13 @@
 //! What is known of each record of a book before any script runs: its target is kept, is begun, or may be either.
 //!
-//! Records have numbers, and what the tree alone tells of their entries is known ([`RowItem`]). So what is left is to go from
-//! record to record. A record gets its verdict once those that it waits for have theirs; what is left without one at the end
-//! is in a ring, or waits for one.
+//! Records have numbers, and what the tree alone tells of their entries is known ([`RowItem`]). So it only remains to
+//! go from record to record. A record gets its verdict once those that it waits for have theirs; one without a
+//! verdict at the end is on a cycle, or waits for one.
 //!
-//! First a walk gives each record its verdict behind those that it waits for, with a stack of its own, in linear time. Then
-//! rounds go over all records until one finds nothing more to do: it shows that none was missed. After the walk the first
-//! round does. Each verdict that is written follows from those in the table, and that is all that the proofs have to know of
-//! the walk: a wrong one would be slow and still right.
+//! First a walk gives each record its verdict after those that it waits for, with a stack of its own, in linear time.
+//! Then rounds go over all records until one finds nothing more to do: it shows that none was missed. After the walk,
+//! the first round does. Each verdict that is written follows from those in the table, and that is all that the
+//! proofs have to know of the walk: a wrong one would be slow and still right.
 
 ghost use Rattle.std.specs.Prelude.{◌≡◌, ℕ, ◌<◌, true, false, Option, Some, None, length};
 ghost use Rattle.std.specs.Prelude.{IfOk, OnOk, unwrap_or};
@@ -26,8 +26,8 @@ pub(crate) enum RowItem {
     Drops,
     /// It names a target whose script is begun.
     Unsure,
-    /// It names the target of the record with this number. If that one is kept, the entry is still so exactly where this is
-    /// true: its file has the recorded state.
+    /// It names the target of the record with this number. If that one is kept, the entry is still so exactly where
+    /// this is true: its file has the recorded state.
     On(usize, bool),
 }
 
@@ -150,8 +150,9 @@ fn see(seen: &mut [bool], number: usize) {
     }
 }
 
-/// The next record without a verdict that a record waits for, from a place among its items on, with its place: it
-/// wasn't seen. None where the record has its verdict, or waits for one that waits for it.
+/// Finds the next unseen record without a verdict that a record waits for, from a place among its items on. Returns
+/// the item's place, and that record's number. None if the verdict follows from those in the table, or the record
+/// waits for one that was seen.
 fn next_waiting(
     book: &[Row],
     table: &[Option<Verdict>],
@@ -174,7 +175,7 @@ fn next_waiting(
     None
 }
 
-/// Gives records their verdicts, each behind those that it waits for, with a stack of its own.
+/// Gives records their verdicts, each after those that it waits for, with a stack of its own.
 fn walk(alloc: Global, book: &[Row], table: &mut [Option<Verdict>]) -> Result<(), AllocError>
     requires { IsSound book.now table.old }
     ensures { OnOk result (IsSound book.now table.new) }

@@ -15,7 +15,7 @@ use redo_tree::Tree;
 use redo_which::lookup;
 use std::alloc::{AllocError, Global};
 
-/// Why a target is listed: what stands before a path, the path and what stands behind it.
+/// Why a target is listed: a path, and the words before and after it.
 #[derive(Clone, Copy)]
 struct Why<'a> {
     before: &'a [u8],

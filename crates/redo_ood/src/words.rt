@@ -94,7 +94,7 @@ fn first_open<'a>(
     None
 }
 
-/// The first entry that isn't so any more, also behind one that is unsure.
+/// The first entry that isn't so any more, even if an unsure one comes before it.
 fn first_drop<'a>(
     entries: &'a [BookEntry],
     items: &[RowItem],
@@ -111,7 +111,7 @@ fn first_drop<'a>(
     None
 }
 
-/// What the entries of a record tell of a target with a rule that is as the last run left it.
+/// What the entries of a record tell of a target with a rule that is as the previous run left it.
 fn word_by<'a>(
     entries: &'a [BookEntry],
     items: &[RowItem],

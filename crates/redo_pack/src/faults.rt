@@ -17,16 +17,6 @@ pub enum PackFault {
     Memory,
 }
 
-impl From<AllocError> for PackFault {
-    ghost use Rattle.redo_pack.specs.declared.faults.PackFault.TheVariants.{Memory};
-
-    ghost from_gives = { λ _ fault. fault ≡ Memory };
-
-    fn from(_error: AllocError) -> PackFault {
-        PackFault::Memory
-    }
-}
-
 impl From<WriteFault> for PackFault {
     ghost use Rattle.redo_pack.specs.Faults.{fault_of};
 

@@ -48,7 +48,7 @@ pub fn pack<W: ByteOut>(alloc: Global, writer: &mut W, tree: &Tree) -> Result<()
     ensures untouched { IsUntouched result writer.old writer.new }
     ensures device { IsErrOf result PackFault.Device ↔ (W.has_failed writer.new ≡ true) }
 {
-    if let Some(path) = too_large(alloc, tree)? {
+    if let Some(path) = too_large(alloc, tree).map_err(|_| PackFault::Memory)? {
         return Err(PackFault::TooLarge(path));
     }
     write_bundle(alloc, writer, tree)?;

@@ -1,7 +1,7 @@
 //! The beginning of a page: its policy and its style.
 //!
-//! The policy names the SHA-256 of the style and of the script in base64. Whoever changes a byte of either puts the
-//! new one here.
+//! The policy names the SHA-256 of the style and of the script in base64. After each change of either, put the new
+//! digest here.
 
 pub(crate) const HEAD: &[u8] = br##"<!doctype html>
 <html lang="en">

@@ -38,7 +38,7 @@ pub(crate) struct Links<'a> {
 }
 
 impl<'a> Links<'a> {
-    /// Of these rows and diagnoses.
+    /// The links of these rows, with their diagnoses and reasons.
     pub(crate) fn of(
         alloc: Global,
         rows: &[Row],
@@ -136,7 +136,7 @@ fn numbers_of(alloc: Global, rows: &[Row]) -> Result<Numbers, AllocError>
     Ok(numbers)
 }
 
-/// So many empty lists.
+/// This many empty lists.
 fn no_users(alloc: Global, count: usize) -> Result<Users, AllocError>
     ensures many { IfOk result (λ users. length users.items ≡ count) }
     ensures none { IfOk result (λ users. (m : ℕ) → users_at users.items m ≡ []) }

@@ -16,7 +16,7 @@ pub(crate) enum Part {
     Head,
     /// What comes before the rows.
     Middle,
-    /// What comes behind the rows: the script.
+    /// What comes after the rows: the script.
     Tail,
     Word(Word),
     Tag(Tag),

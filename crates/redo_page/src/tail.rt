@@ -1,6 +1,6 @@
 //! The end of a page: its script.
 //!
-//! The script reads of a row its class, its cells, its links and the word before each link. Its SHA-256 stands in the
+//! The script reads a row's class, its cells, its links and the word before each link. Its SHA-256 stands in the
 //! policy of the head.
 
 pub(crate) const TAIL: &[u8] = br##"</table></section>

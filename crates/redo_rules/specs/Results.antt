@@ -4,7 +4,7 @@ use Rattle.redo_build.specs.Outcomes.{IsTooMany}
 use Rattle.redo_rules.specs.Build.{GivenView, rules_for}
 use Rattle.redo_past.specs.NewBook.{IsResultOf}
 use Rattle.redo_past.specs.Past.{IsPast, PastView, RefusesBook}
-use Rattle.redo_past.specs.declared.faults.PastFault.TheVariants.{Book}
+use Rattle.redo_book.specs.declared.faults.BookFault.TheVariants.{Line}
 use Rattle.redo_report.specs.Reports.{IsReport}
 use Rattle.redo_report.specs.declared.report.Report.{Report}
 use Rattle.redo_step.specs.Limits.{LimitsView}
@@ -23,7 +23,7 @@ pub record IsGiven (tree : Tree) (request : List (List ℕ)) (limits : LimitsVie
 
 -- line n of the tree's book is the first at fault
 abbrev pub IsRefused : Tree → ℕ → Type 0
-IsRefused tree n = RefusesBook (Book n) tree
+IsRefused tree n = RefusesBook (Line n) tree
 
 -- the report of the build of the sources, with the new book among its files
 pub record IsResult (given : GivenView) (result : Report) : Type 0 where

@@ -1,4 +1,5 @@
-//! A report in few lines, for people: one for each target that was built, failed or is cyclic, and one that counts them.
+//! A report in few lines, for people: one for each target that was built, failed or is cyclic, and one that counts
+//! them.
 //!
 //! [`short_text`] tells of a target what the report tells of it, without its record. Sources and targets that were
 //! kept have no line.

@@ -103,8 +103,8 @@ fn text_by(alloc: Global, begun: &PathSet, rows: &[Row]) -> Result<Vec<u8>, Allo
     Ok(text)
 }
 
-/// The report in few lines: one for each target that was built by its script, failed or is cyclic, in the report's words
-/// and order, and the summary. What was kept has no line, and no source.
+/// The report in a few lines: one for each target that was built by its script, failed or is cyclic, in the report's
+/// words and order, and the summary. Kept targets and sources have no line.
 pub fn short_text(alloc: Global, report: &Report) -> Result<Vec<u8>, AllocError>
     ensures { IfOk result (λ text. text.items ≡ short_report report.now) }
 {

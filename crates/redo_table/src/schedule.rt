@@ -91,6 +91,15 @@ impl Schedule {
         Ok(at)
     }
 
+    /// The ready target at this index of the queue.
+    pub fn ready_at(&self, which: usize) -> u32
+        requires { which < length self.now.ready }
+        ensures number { slice_get self.now.ready which ≡ Some result }
+        ensures is { stage_at self.now result ≡ Some Ready }
+    {
+        self.ready[which]
+    }
+
     /// Takes the ready target at this index of the queue. The others close up.
     pub fn take(&mut self, which: usize) -> u32
         requires { which < length self.old.ready }
