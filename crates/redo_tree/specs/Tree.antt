@@ -1,5 +1,5 @@
 -- A tree: what is at each path, in the order of the paths' texts.
-use Rattle.std.specs.Prelude.{◌≡◌, ◌≤◌, ◌&&◌, Bool, true, nat_eq, ℕ, List, [], ◌∷◌, ◌++◌, codes, fold, length}
+use Rattle.std.specs.Prelude.{◌≡◌, ◌≤◌, ◌&&◌, Bool, true, nat_eq, ℕ, List, [], ◌∷◌, ◌++◌, codes, filter_map, fold, length}
 use Rattle.std.specs.Prelude.{Option, Some, None, Result, Ok, Err, IsSome, option_and_then, option_map, refl}
 use Rattle.std.specs.Prelude.{if◌then◌else◌, filter, is_some, not}
 use Rattle.std.specs.BTreeMap.{insert_entry, is_at}
@@ -88,6 +88,10 @@ abbrev pub trees_alike : IsEquivalence tree_eq
 trees_alike =
     lists_equiv (and_equiv (on_equiv (λ e. e.0) nat_list_eq_equiv)
     (on_equiv (λ e. bytes_of e.1) (options_equiv nat_list_eq_equiv)))
+
+-- the paths of a tree's files, in path order, each once
+abbrev pub files_of : Tree → List (List ℕ)
+files_of tree = filter_map (λ e. option_map (λ _. e.0) (bytes_of e.1)) tree
 
 -- whether an entry is a file at one of these paths
 abbrev pub is_file_among : List (List ℕ) → List ℕ × Node → Bool

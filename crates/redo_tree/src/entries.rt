@@ -1,13 +1,13 @@
 //! The tree: what is at each path.
 //!
-//! Entries are kept in the order in which they were added. They are sorted for [`Tree::in_order`] alone, so memory may
-//! run out there and while a bundle is written.
+//! Entries are kept in the order in which they were added. They are sorted for [`Tree::in_order`] and [`Tree::files`]
+//! alone, so memory may run out there and while a bundle is written.
 
 ghost use Rattle.std.specs.Prelude.{◌≡◌, ◌<◌, ◌^◌, ◌↔◌, IfOk, IfSome, IsTrue, OnOk, false, length, option_copied, map};
 ghost use Rattle.std.specs.Prelude.{option_map, is_some, List, ℕ};
 ghost use Rattle.std.specs.Cmp.{partial_equiv_from_equiv};
 ghost use Rattle.redo_path.specs.Names.{IsPath};
-ghost use Rattle.redo_tree.specs.Tree.{Directory, File, top, node_at, kind_of, file_at, node_of, refusal};
+ghost use Rattle.redo_tree.specs.Tree.{Directory, File, top, node_at, kind_of, file_at, files_of, node_of, refusal};
 ghost use Rattle.redo_tree.specs.Tree.{added, tree_eq, trees_alike, default_dir as dir_of_default};
 ghost use Rattle.redo_tree.specs.Tree.{is_default as begins_and_ends, Adds, Allows, HasNoDefaults, IsNoted, IsTree};
 ghost use Rattle.redo_tree.specs.Tree.{tree_of, AreAmong, HasEntry, HasFileOf, IsKept, without};
@@ -203,6 +203,20 @@ impl Tree {
         ensures tree { IsTree self.now }
     {
         sorted(alloc, &self.entries)
+    }
+
+    /// The paths of the files, in path order, each once. Each call sorts all entries.
+    pub fn files(&self, alloc: Global) -> Result<Vec<&Path>, AllocError>
+        ensures { IfOk result (λ paths. map (λ p. p.now) paths.items ≡ files_of self.now) }
+    {
+        let mut paths = Vec::new(alloc);
+        for (path, entry) in self.in_order(alloc)? {
+            match entry {
+                Entry::File(_) => paths.push(path)?,
+                Entry::Directory => {}
+            }
+        }
+        Ok(paths)
     }
 
     /// The tree without the files at these paths. Directories stay, and a path without a file is ignored. The contents
