@@ -10,8 +10,8 @@ use Rattle.redo_tree.proofs.KeptLemmas.{one_sorted}
 use Rattle.redo_which.specs.Candidates.{book_path, journal_path}
 use Rattle.redo_book.specs.Book.{IsRefused, IsText, Record}
 use Rattle.redo_past.specs.Past.{IsBookOf, RefusesBook}
-use Rattle.redo_past.specs.declared.faults.PastFault.{PastFault}
-use Rattle.redo_past.specs.declared.faults.PastFault.TheVariants.{Book, Memory}
+use Rattle.redo_book.specs.declared.faults.BookFault.{BookFault}
+use Rattle.redo_book.specs.declared.faults.BookFault.TheVariants.{Line, Memory}
 use Rattle.redo_past.proofs.OrderLemmas.{same_path}
 use Rattle.redo_dir.specs.Own.{is_own}
 use Rattle.redo_mend.specs.Recovered.{IsRecovered}
@@ -85,9 +85,9 @@ refused-book : NoFault → (file : Option (List ℕ)) (text : List ℕ) (n : ℕ
 refused-book law file text n old e refused is = let here : IsText text old = rw e at is in law text old n here refused
 
 -- a tree with a whole journal isn't mended
-pub none-refused : NoFault → (tree : Tree) (text : List ℕ) (journal : List Record) (fault : PastFault) → file_at tree journal_path ≡ Some text → IsText text journal → node_at tree book_path ≢ Some Directory → RefusesBook fault tree → HasNoMended fault tree
+pub none-refused : NoFault → (tree : Tree) (text : List ℕ) (journal : List Record) (fault : BookFault) → file_at tree journal_path ≡ Some text → IsText text journal → node_at tree book_path ≢ Some Directory → RefusesBook fault tree → HasNoMended fault tree
 none-refused law tree text journal Memory e is_journal place refused = tt
-none-refused law tree text journal (Book n) e is_journal place refused = λ mended mends.
+none-refused law tree text journal (Line n) e is_journal place refused = λ mended mends.
     (let found : IsRecoveredTree tree text mended ⊎ (IsPassedOver tree text × (mended ≡ without tree (journal_path ∷ []))) = rw e at mends in
     elim found [
       | inl is ↦ refused-book law (file_at tree book_path) refused.0 n is.old refused.1 refused.2 is.is_old

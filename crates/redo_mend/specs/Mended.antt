@@ -9,8 +9,8 @@ use Rattle.redo_tree.specs.Tree.{Directory, IsTree, Tree, file_at, node_at, with
 use Rattle.redo_which.specs.Candidates.{book_path, journal_path}
 use Rattle.redo_book.specs.Book.{IsText, Record, book_lines, text_of}
 use Rattle.redo_past.specs.Past.{IsBookOf}
-use Rattle.redo_past.specs.declared.faults.PastFault.{PastFault}
-use Rattle.redo_past.specs.declared.faults.PastFault.TheVariants.{Book, Memory}
+use Rattle.redo_book.specs.declared.faults.BookFault.{BookFault}
+use Rattle.redo_book.specs.declared.faults.BookFault.TheVariants.{Line, Memory}
 use Rattle.redo_dir.specs.Own.{is_own}
 use Rattle.redo_mend.specs.Recovered.{IsRecovered}
 
@@ -49,8 +49,8 @@ MendsTo tree mended =
     (λ text. IsRecoveredTree tree text mended ⊎ (IsPassedOver tree text × (mended ≡ without tree (journal_path ∷ []))))
 
 -- the tree can't be mended, unless memory ran out
-abbrev pub HasNoMended : PastFault → Tree → Type 0
-HasNoMended (Book n) tree = (mended : Tree) → MendsTo tree mended → ⊥
+abbrev pub HasNoMended : BookFault → Tree → Type 0
+HasNoMended (Line n) tree = (mended : Tree) → MendsTo tree mended → ⊥
 HasNoMended Memory tree = Unit {0}
 
 -- the text of the mended tree's book, where the tree has another one or none

@@ -14,10 +14,10 @@ use crate::left::book_to_put;
 use crate::named::targets_named;
 use crate::own::temporaries;
 use crate::recovered::recovered_text;
-use redo_book::Book;
 use redo_book::laws::a_book_has_no_fault;
+use redo_book::{Book, BookFault};
 use redo_dir::{Left, journal_path};
-use redo_past::{PastFault, book_of, book_path};
+use redo_past::{book_of, book_path};
 use redo_path::Path;
 use redo_tree::{Content, Tree};
 use std::alloc::{AllocError, Global};
@@ -61,7 +61,7 @@ fn recover<R: Threads + Sync>(
     workers: usize,
     tree: Tree,
     journal: Journal,
-) -> Result<Mended, PastFault>
+) -> Result<Mended, BookFault>
     requires book { IsText journal.text journal.book }
     requires place { node_at tree path_of_book ≢ Some Directory }
     ensures mends { IfOk result (λ mended. IsRecoveredTree tree journal.text mended.tree) }
@@ -118,7 +118,7 @@ pub fn mend<R: Threads + Sync>(
     alloc: Global,
     workers: usize,
     tree: Tree,
-) -> Result<Mended, PastFault>
+) -> Result<Mended, BookFault>
     ensures mends { IfOk result (λ mended. MendsTo tree mended.tree) }
     ensures journal { IfOk result (λ mended.
         option_map (λ left. left.journal) mended.left ≡ file_at tree path_of_journal) }

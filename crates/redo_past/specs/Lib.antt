@@ -1,4 +1,3 @@
-pub mod Faults
 pub mod NewBook
 pub mod Past
 pub mod inside

@@ -9,8 +9,8 @@ use Rattle.redo_which.specs.Candidates.{book_path}
 use Rattle.redo_which.specs.Rule.{found_of, is_rule}
 use Rattle.redo_book.specs.Book.{IsRefused, IsText, Record, record_at, targets_of}
 use Rattle.redo_book.specs.Intact.{is_intact}
-use Rattle.redo_past.specs.declared.faults.PastFault.{PastFault}
-use Rattle.redo_past.specs.declared.faults.PastFault.TheVariants.{Book, Memory}
+use Rattle.redo_book.specs.declared.faults.BookFault.{BookFault}
+use Rattle.redo_book.specs.declared.faults.BookFault.TheVariants.{Line, Memory}
 
 -- there is a file, and this is its digest
 abbrev pub has_digest : Option (List ℕ) → State → Bool
@@ -51,11 +51,11 @@ pub record IsPast (past : PastView) : Type 0 where
   pub sources : past.sources ≡ without past.tree (set_aside past.tree past.book)
 
 -- the tree has a text of a book in which this is the first line at fault, unless memory ran out
-abbrev pub RefusesBook : PastFault → Tree → Type 0
-RefusesBook (Book n) tree = (text : List ℕ) × (file_at tree book_path ≡ Some text) × IsRefused text n
+abbrev pub RefusesBook : BookFault → Tree → Type 0
+RefusesBook (Line n) tree = (text : List ℕ) × (file_at tree book_path ≡ Some text) × IsRefused text n
 RefusesBook Memory tree = Unit {0}
 
 -- the tree has no past, unless memory ran out
-abbrev pub HasNoPast : PastFault → Tree → Type 0
-HasNoPast (Book n) tree = (past : PastView) → IsPast past → past.tree ≡ tree → ⊥
+abbrev pub HasNoPast : BookFault → Tree → Type 0
+HasNoPast (Line n) tree = (past : PastView) → IsPast past → past.tree ≡ tree → ⊥
 HasNoPast Memory tree = Unit {0}

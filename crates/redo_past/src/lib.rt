@@ -5,7 +5,7 @@
 //! book, which has a record for each target that was built, and the records that are carried from the old book.
 //!
 //! - `past`: the tree, the sources and the book, and what a run leaves; `named`: the files that the book has digests
-//!   of, and those that the new one will have; `hints`: where their records stand; `faults`: why a tree is refused;
+//!   of, and those that the new one will have; `hints`: where their records stand;
 //! - `place`: the book's place in a tree; `standing`: whether a path is as a book says; `rows`: the rows of a report,
 //!   found by their paths; `states`: the state of each path when a run ends;
 //! - `old_records`: the records of the last run, with their texts; `items`: what the records of the new book are made
@@ -18,7 +18,6 @@
 
 mod books;
 mod carrying;
-mod faults;
 mod hints;
 mod items;
 pub mod laws;
@@ -35,7 +34,6 @@ mod sizes;
 mod standing;
 mod states;
 
-pub use faults::PastFault;
 pub use past::Past;
 pub use place::{book_of, book_path, has_book};
 pub use run_report::RunReport;

@@ -11,10 +11,9 @@ ghost use Rattle.redo_book.specs.Book.{record_at, IsText};
 ghost use Rattle.redo_past.specs.Past.{HasNoPast, IsPast, RefusesBook, intact_record};
 ghost use Rattle.redo_past.specs.Past.{set_aside as aside_of};
 ghost use Rattle.redo_tree.specs.Tree.{without};
-ghost use Rattle.redo_past.specs.declared.faults.PastFault.TheVariants as faults;
+ghost use Rattle.redo_book.specs.declared.faults.BookFault.TheVariants as faults;
 ghost use Rattle.redo_which.specs.Candidates.{book_path as path_of_book};
 
-use crate::PastFault;
 use crate::books::put_file;
 use crate::hints::RecordHints;
 use crate::named::named_by;
@@ -24,7 +23,7 @@ use crate::row_digests::with_row_digests;
 use crate::rows::{Rows, numbers_of};
 use crate::run_report::{BookFile, RunReport};
 use crate::standing::is_generated;
-use redo_book::Book;
+use redo_book::{Book, BookFault};
 use redo_path::Path;
 use redo_report::{Report, Row};
 use redo_tree::laws::no_other_file_is_taken_out;
@@ -86,7 +85,7 @@ impl Past {
     /// Reads the book of a tree and sets aside the files that aren't sources. Contents are shared with the tree;
     /// without a book, so is all the rest. The files that the book has digests of are digested once, and keep their
     /// digests. If memory runs out, nothing is said of the book.
-    pub fn open(alloc: Global, tree: Tree) -> Result<Past, PastFault>
+    pub fn open(alloc: Global, tree: Tree) -> Result<Past, BookFault>
         ensures tree { IfOk result (λ past. past.tree ≡ tree) }
         ensures past { IfOk result IsPast }
         ensures refused { IfErr result (λ fault. RefusesBook fault tree) }
@@ -109,7 +108,7 @@ impl Past {
         alloc: Global,
         threads: usize,
         tree: Tree,
-    ) -> Result<Past, PastFault>
+    ) -> Result<Past, BookFault>
         ensures tree { IfOk result (λ past. past.tree ≡ tree) }
         ensures past { IfOk result IsPast }
         ensures refused { IfErr result (λ fault. RefusesBook fault tree) }
@@ -128,7 +127,7 @@ impl Past {
     }
 
     /// The past of a tree without a book: every file is a source.
-    fn without_book(alloc: Global, tree: Tree) -> Result<Past, PastFault>
+    fn without_book(alloc: Global, tree: Tree) -> Result<Past, BookFault>
         requires none { file_at tree path_of_book ≡ None }
         ensures tree { IfOk result (λ past. past.tree ≡ tree) }
         ensures past { IfOk result IsPast }
@@ -153,7 +152,7 @@ impl Past {
         tree: Tree,
         book: Book,
         hints: RecordHints,
-    ) -> Result<Past, PastFault>
+    ) -> Result<Past, BookFault>
         requires book { MatchOption (file_at tree path_of_book) ⊥ (λ text. IsText text book) }
         ensures tree { IfOk result (λ past. past.tree ≡ tree) }
         ensures past { IfOk result IsPast }

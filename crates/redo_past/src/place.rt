@@ -6,8 +6,7 @@ ghost use Rattle.redo_which.specs.Candidates.{book_path as path_of_book};
 ghost use Rattle.redo_book.specs.Book.{IsText};
 ghost use Rattle.redo_past.specs.Past.{HasNoPast, IsBookOf, RefusesBook};
 
-use crate::PastFault;
-use redo_book::{Book, read_book};
+use redo_book::{Book, BookFault, read_book};
 use redo_path::Path;
 use redo_tree::Tree;
 use redo_which::BOOK;
@@ -28,7 +27,7 @@ pub fn has_book(tree: &Tree) -> bool
 }
 
 /// The book of a tree, if it has one.
-pub(crate) fn book_in(alloc: Global, tree: &Tree) -> Result<Option<Book>, PastFault>
+pub(crate) fn book_in(alloc: Global, tree: &Tree) -> Result<Option<Book>, BookFault>
     ensures book { IfOk result (λ book. MatchOption (file_at tree.now path_of_book) (book ≡ None) (λ text.
         MatchOption book ⊥ (IsText text))) }
     ensures refused { IfErr result (λ fault. RefusesBook fault tree.now) }
@@ -41,7 +40,7 @@ pub(crate) fn book_in(alloc: Global, tree: &Tree) -> Result<Option<Book>, PastFa
 }
 
 /// The book of a tree, empty if it has none.
-pub fn book_of(alloc: Global, tree: &Tree) -> Result<Book, PastFault>
+pub fn book_of(alloc: Global, tree: &Tree) -> Result<Book, BookFault>
     ensures book { IfOk result (IsBookOf (file_at tree.now path_of_book)) }
     ensures refused { IfErr result (λ fault. RefusesBook fault tree.now) }
 {
