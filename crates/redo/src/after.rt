@@ -1,4 +1,4 @@
-//! What is said on standard error behind the report of a build.
+//! What standard error shows after the report of a build.
 
 use crate::diagnosing::{say_diagnoses, say_echoes, say_scripts};
 use crate::found::Found;
@@ -17,7 +17,7 @@ use std::alloc::{AllocError, Global};
 use std::path::Path as SystemPath;
 use std::rt::Runtime;
 
-/// A build that has ended, and what is to be said of it.
+/// A build that has ended, and what to show of it.
 #[derive(Drop)]
 pub(crate) struct After<'a> {
     pub(crate) build: &'a BuildOptions,
@@ -45,10 +45,10 @@ impl After<'_> {
     }
 }
 
-/// So many notes of a kind are said at most.
+/// At most this many notes of a kind are shown.
 pub(crate) const MOST_NOTES: usize = 10;
 
-/// Where the directory is so many levels above, from here.
+/// The path that leads this many levels up, 1 or more, such as `../..`.
 pub(crate) fn way_up(alloc: Global, levels: usize) -> Result<Vec<u8>, AllocError> {
     let mut way = Vec::new(alloc);
     way.extend_from_slice(b"..")?;
@@ -58,7 +58,7 @@ pub(crate) fn way_up(alloc: Global, levels: usize) -> Result<Vec<u8>, AllocError
     Ok(way)
 }
 
-/// The targets of a build as they are named on a command line; nothing where that is `all`.
+/// The words that name the targets of a build of `all` on a command line, each after a blank; none for `all` alone.
 fn words_of_request(alloc: Global, targets: &[Path]) -> Result<Vec<u8>, AllocError> {
     let mut words = Vec::new(alloc);
     if targets.len() > 1 {
@@ -70,7 +70,7 @@ fn words_of_request(alloc: Global, targets: &[Path]) -> Result<Vec<u8>, AllocErr
     shown_lines(alloc, &words)
 }
 
-/// Says how many files builds left that this one doesn't need, if there are any, and how to see them.
+/// Says how many built files this build doesn't need, if any, and how to list and remove them.
 fn note_dead<H: Runtime>(
     rt: &H,
     alloc: Global,
@@ -117,8 +117,8 @@ fn note_book_above<H: Runtime>(
     Ok(())
 }
 
-/// Warns of a first book in a directory below one that has a book, unless notes say it anyway: once the book is there, no run
-/// can tell that it was made by mistake. Where there is no memory for the words, they are left out.
+/// Warns of a directory's first book below another one, unless notes do: once the book is there, no run can tell that
+/// it was made by mistake. Without memory for the words there is no warning.
 pub(crate) fn warn_of_book_above<H: Runtime>(
     rt: &H,
     alloc: Global,
@@ -145,7 +145,7 @@ fn say_end<H: Runtime>(rt: &H, after: &After<'_>, said: &str, files: u64, millis
     };
 }
 
-/// Says in one line what a build came to, and how long it took. What standard output has said isn't said again.
+/// Sums up a build in one line, with its time. Leaves out what standard output has shown already.
 fn say_summary<H: Runtime>(
     rt: &H,
     alloc: Global,
@@ -164,7 +164,7 @@ fn say_summary<H: Runtime>(
     Ok(())
 }
 
-/// Says what is to be said of what a build came to.
+/// Shows what follows the report of a build.
 pub(crate) fn say_after<H: Runtime>(
     rt: &H,
     alloc: Global,

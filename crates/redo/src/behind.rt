@@ -1,4 +1,4 @@
-//! The writer of a report: behind the line of progress, and before a reader who may go away.
+//! The writer of a report. It clears the line of progress first, and notes when the reader has gone.
 
 ghost use Rattle.std.specs.Prelude.{◌≡◌, false};
 

@@ -1,6 +1,7 @@
 //! Builds.
 
 ghost use Rattle.std.specs.Prelude.{◌≡◌, false};
+ghost use Rattle.redo_core.specs.Permits.{IsUnused};
 
 use crate::after::{After, Built, say_after, warn_of_book_above};
 use crate::behind::{Behind, Watched};
@@ -40,7 +41,7 @@ pub(crate) struct DirBuild {
 
 /// Builds targets, and returns whether all went well.
 pub(crate) fn build<H: Runtime + Threads + Wait + Sync>(
-    host: &Host<'_, H, Progress<'_>>,
+    host: &mut Host<'_, H, Progress<'_>>,
     build: &BuildOptions,
     voice: Voice,
     cause: &mut Cause,
@@ -48,6 +49,7 @@ pub(crate) fn build<H: Runtime + Threads + Wait + Sync>(
 where
     H::File: Send + Lockable,
     H::Dir: Send,
+    requires permit { IsUnused host.old.permit }
 {
     let outcome = match build.format {
         Format::Report => build_and_write(host, build, io::writer(host.rt), cause),
@@ -63,13 +65,13 @@ where
         milliseconds: host.observer.milliseconds(),
     };
     match outcome? {
-        Run::OverBundle(run) => end_over_bundle(host.rt, host.alloc, &after, run),
-        Run::OverDir(built) => end_over_dir(host.rt, host.alloc, &after, built),
+        Run::OverBundle(run) => end_over_bundle(host.rt, host.alloc(), &after, run),
+        Run::OverDir(built) => end_over_dir(host.rt, host.alloc(), &after, built),
     }
 }
 
-/// What is found beside a report, if anything is to be said of it. If there is no memory for it, it is left out, unless the
-/// build's end hangs on it, or what is printed.
+/// Finds what there is to show beside a report, or `None` if nothing is to be shown. If memory runs out, it is
+/// `None`, too, or a fault if the exit status or the printed report depends on it.
 fn find_for(alloc: Global, after: &After<'_>, built: &Built<'_>) -> Result<Option<Found>, Fault> {
     if after.is_silent() {
         return Ok(None);
@@ -82,8 +84,8 @@ fn find_for(alloc: Global, after: &After<'_>, built: &Built<'_>) -> Result<Optio
     }
 }
 
-/// Says what is to be said of what was found, and returns whether nothing is stale that is to be refused. What can't be
-/// said for want of memory is left out, unless the build is strict.
+/// Shows what follows a report, and returns whether `--strict` refuses nothing of what was found. If memory runs out,
+/// the rest isn't shown; that is a fault of a strict build only.
 fn say_found<H: Runtime>(
     rt: &H,
     alloc: Global,
@@ -100,7 +102,7 @@ fn say_found<H: Runtime>(
     }
 }
 
-/// Says what is to be said of a build over a bundle, and returns whether all went well.
+/// Shows what a build over a bundle came to, and returns whether all went well.
 fn end_over_bundle<H: Runtime>(
     rt: &H,
     alloc: Global,
@@ -130,7 +132,7 @@ fn end_over_bundle<H: Runtime>(
     Ok(say_found(rt, alloc, after, &built, &found)? && good)
 }
 
-/// Says what is to be said of a build over a directory, and returns whether all went well.
+/// Shows what a build over a directory came to, and returns whether all went well.
 fn end_over_dir<H: Runtime>(
     rt: &H,
     alloc: Global,
@@ -163,7 +165,7 @@ fn end_over_dir<H: Runtime>(
 
 /// Builds targets, and writes the whole report to a stream.
 pub(crate) fn build_and_write<H: Runtime + Threads + Wait + Sync, W: Write + Drop>(
-    host: &Host<'_, H, Progress<'_>>,
+    host: &mut Host<'_, H, Progress<'_>>,
     build: &BuildOptions,
     stream: W,
     cause: &mut Cause,
@@ -171,13 +173,14 @@ pub(crate) fn build_and_write<H: Runtime + Threads + Wait + Sync, W: Write + Dro
 where
     H::File: Send + Lockable,
     H::Dir: Send,
+    requires permit { IsUnused host.old.permit }
 {
     let stream = Watched {
         stream,
         has_gone: false,
     };
     let mut writer = Behind {
-        out: Plain::new(buffered(host.alloc, stream)?),
+        out: Plain::new(buffered(host.alloc(), stream)?),
         progress: host.observer,
     };
     let outcome = build_to(host, build, &mut writer, cause);
@@ -191,7 +194,7 @@ where
 
 /// Builds targets, and writes the whole report.
 fn build_to<H: Runtime + Threads + Wait + Sync, W: Write + Drop>(
-    host: &Host<'_, H, Progress<'_>>,
+    host: &mut Host<'_, H, Progress<'_>>,
     build: &BuildOptions,
     writer: &mut Behind<'_, Plain<BufWriter<W>>>,
     cause: &mut Cause,
@@ -199,12 +202,13 @@ fn build_to<H: Runtime + Threads + Wait + Sync, W: Write + Drop>(
 where
     H::File: Send + Lockable,
     H::Dir: Send,
-    requires { writer.old.out.broken ≡ false }
+    requires writer { writer.old.out.broken ≡ false }
+    requires permit { IsUnused host.old.permit }
 {
     let run = match &build.input {
         Input::Bundle => {
             let mut reader = Plain::new(host.rt.reader());
-            let options = options_of(build, Vec::new(host.alloc))?;
+            let options = options_of(build, Vec::new(host.alloc()))?;
             Run::OverBundle(run_bundle(host, &mut reader, writer, &options, cause)?)
         }
         Input::Directory(dir) => Run::OverDir(build_dir(host, dir, build, writer, cause)?),
@@ -215,7 +219,7 @@ where
 
 /// Builds the targets of a directory.
 fn build_dir<H: Runtime + Threads + Wait + Sync, W: Write + Drop>(
-    host: &Host<'_, H, Progress<'_>>,
+    host: &mut Host<'_, H, Progress<'_>>,
     dir: &str,
     build: &BuildOptions,
     writer: &mut Behind<'_, Plain<BufWriter<W>>>,
@@ -224,18 +228,19 @@ fn build_dir<H: Runtime + Threads + Wait + Sync, W: Write + Drop>(
 where
     H::File: Send + Lockable,
     H::Dir: Send,
-    requires { writer.old.out.broken ≡ false }
+    requires writer { writer.old.out.broken ≡ false }
+    requires permit { IsUnused host.old.permit }
 {
     if build.storing == Storing::Nothing {
-        let dir = SystemDir::new(host.rt, host.alloc, dir);
+        let dir = SystemDir::new(host.rt, host.alloc(), dir);
         let options = options_for(host, &dir, build, cause)?;
         let run = preview_dir(host, &dir, writer, &options, cause)?;
         let taken = options.taken;
         return Ok(DirBuild { run, taken });
     }
-    let lock = lock(host.rt, host.alloc, dir, cause)?;
+    let lock = lock(host.rt, host.alloc(), dir, cause)?;
     let synced = build.storing == Storing::Synced;
-    let mut dir = SystemDir::locked(host.rt, host.alloc, dir, &lock, synced);
+    let mut dir = SystemDir::locked(host.rt, host.alloc(), dir, &lock, synced);
     let options = options_for(host, &dir, build, cause)?;
     let run = run_dir(host, &mut dir, writer, &options, cause)?;
     let taken = options.taken;

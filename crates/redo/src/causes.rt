@@ -1,4 +1,4 @@
-//! The cause behind a message, which `-v` adds if it is known.
+//! The cause of a message, which `-v` adds if it is known.
 
 use crate::damaged;
 use crate::status::Fault;
@@ -87,7 +87,7 @@ pub(crate) fn of_fault<H: Runtime>(
     }
 }
 
-/// Why the report of a run can't be written that has stored its files.
+/// Why a report can't be written after all files were stored.
 fn of_lost_report(alloc: Global, cause: &Cause) -> Words {
     let words = match cause.said {
         Some(Said::System(ErrorKind::BrokenPipe)) => {
@@ -111,7 +111,7 @@ fn of_bundle(alloc: Global, fault: BundleFault, header: &[u8]) -> Words {
     }
 }
 
-/// What can't be read of a directory, as the system names it, and what the system said of it.
+/// What can't be read, a directory or something in it, by its name in the system, and why.
 fn of_unread(alloc: Global, cause: &Cause, dir: &str) -> Words {
     let Some(said) = cause.said else {
         return Ok(None);

@@ -14,7 +14,7 @@ use std::io;
 use std::rt::Runtime;
 use std::thread::Threads;
 
-/// What a clean of a directory would do, and how many names were passed over. So many threads read the directory.
+/// Plans a clean of a directory, which `workers` threads read. Returns the plan, and how many names were passed over.
 fn plan_of<H: Runtime + Threads + Sync, D: WorkDir + Sync>(
     rt: &H,
     alloc: Global,
@@ -42,8 +42,7 @@ pub(crate) fn print<H: Runtime>(rt: &H, text: &[u8]) -> Result<(), Fault> {
     Ok(write_all(&mut writer, text)?)
 }
 
-/// Removes what the last run left, and prints what became of it. Where the clean is broken off, what it has removed is
-/// printed, too.
+/// Removes what a plan names, and prints what became of each file, as far as the clean has come if it is broken off.
 pub(crate) fn clean_by_plan<D: WorkDir, H: Runtime>(
     rt: &H,
     alloc: Global,

@@ -1,4 +1,4 @@
-//! How a book is damaged that is refused.
+//! How a refused book is damaged.
 
 use bstr::ByteSlice;
 use std::alloc::Global;
@@ -6,7 +6,7 @@ use std::fs;
 use std::path::Path as SystemPath;
 use std::rt::Runtime;
 
-/// What is said of a book that was changed otherwise.
+/// The words for a book that was changed in another way.
 const OTHERWISE: &str =
     "the file .redo-book is not as a run leaves it; after a merge take one side's whole, as by \
     git checkout --ours .redo-book; without it each file that was built counts as yours until \
@@ -18,7 +18,7 @@ fn ends_before(text: &[u8], line: u64) -> bool {
     whole < line
 }
 
-/// What is said of a book with this text, in which this line is the first at fault.
+/// The words for a book with this text, in which this line is the first faulty one.
 fn words_for(text: &[u8], line: u64) -> &'static str {
     if text.is_empty() {
         "the file .redo-book is empty: get it back, or remove it; then each file that was built counts as yours \
@@ -35,7 +35,7 @@ fn words_for(text: &[u8], line: u64) -> &'static str {
     }
 }
 
-/// What is said of the book of a directory, in which this line is the first at fault.
+/// The words for the book of a directory, in which this line, counted from 1, is the first faulty one.
 pub(crate) fn words_of<H: Runtime>(rt: &H, alloc: Global, dir: &str, line: u64) -> &'static str {
     let Ok(place) = SystemPath::new(dir).join(alloc, ".redo-book") else {
         return OTHERWISE;

@@ -1,4 +1,6 @@
-//! The files that builds left and that a build needs no more.
+//! Built files that a build no longer needs.
+
+ghost use Rattle.redo_core.specs.Permits.{IsUnused};
 
 use crate::building::{Run, build_and_write};
 use crate::cleaning::{clean_by_plan, print};
@@ -27,7 +29,8 @@ struct Tried {
     passed: u64,
 }
 
-/// The clean of what a build doesn't need that came to this report. Where a target isn't built, what it needs isn't known.
+/// Plans the removal of what a build with this report doesn't need. Refuses a build that isn't good: what a failed
+/// target needs isn't known.
 fn plan_by(alloc: Global, exit: Exit, past: &Past, report: &Report) -> Result<CleanPlan, Fault> {
     if exit != Exit::Good {
         return Err(Fault::Unbuilt);
@@ -37,15 +40,16 @@ fn plan_by(alloc: Global, exit: Exit, past: &Past, report: &Report) -> Result<Cl
 
 /// Tries a build out.
 fn try_out<H: Runtime + Threads + Wait + Sync>(
-    host: &Host<'_, H, Progress<'_>>,
+    host: &mut Host<'_, H, Progress<'_>>,
     build: &BuildOptions,
     cause: &mut Cause,
 ) -> Result<Tried, Fault>
 where
     H::File: Send + Lockable,
     H::Dir: Send,
+    requires permit { IsUnused host.old.permit }
 {
-    let alloc = host.alloc;
+    let alloc = host.alloc();
     let outcome = build_and_write(host, build, io::sink(), cause);
     host.observer.clear();
     match outcome? {
@@ -65,7 +69,7 @@ where
 
 /// Removes what a build of this directory doesn't need.
 fn remove_dead<H: Runtime + Threads + Wait + Sync>(
-    host: &Host<'_, H, Progress<'_>>,
+    host: &mut Host<'_, H, Progress<'_>>,
     build: &BuildOptions,
     dir: &str,
     cause: &mut Cause,
@@ -73,8 +77,9 @@ fn remove_dead<H: Runtime + Threads + Wait + Sync>(
 where
     H::File: Send + Lockable,
     H::Dir: Send,
+    requires permit { IsUnused host.old.permit }
 {
-    let (rt, alloc) = (host.rt, host.alloc);
+    let (rt, alloc) = (host.rt, host.alloc());
     let lock = lock(rt, alloc, dir, cause)?;
     let Tried { plan, passed } = try_out(host, build, cause)?;
     let mut dir = SystemDir::locked(rt, alloc, dir, &lock, false);
@@ -82,17 +87,18 @@ where
     Ok(passed)
 }
 
-/// Lists the files that builds left and that this one needs no more, or removes them, or says which it would remove.
+/// Lists the built files that a build no longer needs, removes them, or says which it would remove.
 pub(crate) fn tell_dead<H: Runtime + Threads + Wait + Sync>(
-    host: &Host<'_, H, Progress<'_>>,
+    host: &mut Host<'_, H, Progress<'_>>,
     dead: &Dead,
     cause: &mut Cause,
 ) -> Result<bool, Fault>
 where
     H::File: Send + Lockable,
     H::Dir: Send,
+    requires permit { IsUnused host.old.permit }
 {
-    let (rt, alloc, build) = (host.rt, host.alloc, &dead.build);
+    let (rt, alloc, build) = (host.rt, host.alloc(), &dead.build);
     let passed = match &build.input {
         Input::Directory(dir) if dead.cleaned && !dead.dry_run => {
             remove_dead(host, build, dir, cause)?

@@ -1,4 +1,4 @@
-//! What is wrong with failed targets, said on standard error behind the report.
+//! What is wrong with failed targets, shown on standard error after the report.
 
 use crate::after::After;
 use bstr::BStr;
@@ -16,10 +16,10 @@ use std::fs;
 use std::path::Path as SystemPath;
 use std::rt::Runtime;
 
-/// So many diagnoses are said at most, and so many rings.
+/// At most this many diagnoses are shown, as many cycles, and as many scripts that misuse `echo`.
 const MOST: usize = 20;
 
-/// So many are made at most: several may tell of one fault.
+/// At most this many are made: several may be of one fault.
 const MOST_MADE: usize = 1_000;
 
 /// Whether there is a link at a path of a directory. What can't be looked at counts as none.
@@ -61,7 +61,7 @@ fn link_to<'p, H: Runtime>(
     }
 }
 
-/// Says of a target that redo doesn't see because of a link what the link is.
+/// Has a diagnosis name the link that hides its target from redo, if there is one.
 fn blame_link<H: Runtime>(
     rt: &H,
     alloc: Global,
@@ -112,7 +112,7 @@ fn stand_of(build: &BuildOptions) -> Stand<'_> {
     }
 }
 
-/// Says what is wrong with the first failed targets, and which targets ask for themselves.
+/// Shows what is wrong with the first failed targets, and the first cycles.
 pub(crate) fn say_diagnoses<H: Runtime>(
     rt: &H,
     alloc: Global,
@@ -129,7 +129,7 @@ pub(crate) fn say_diagnoses<H: Runtime>(
     Ok(())
 }
 
-/// Says of an `echo` that it prints what was meant for an option.
+/// Says that an `echo` prints a word that was meant as an option.
 fn say_echo<H: Runtime>(
     rt: &H,
     alloc: Global,
@@ -146,7 +146,7 @@ fn say_echo<H: Runtime>(
     Ok(())
 }
 
-/// Says of the first scripts that were begun where they print what was meant for an option.
+/// Says where the first begun scripts print a word that was meant as an option.
 pub(crate) fn say_echoes<H: Runtime>(
     rt: &H,
     alloc: Global,
@@ -177,7 +177,7 @@ fn made_by(script: &[u8]) -> Option<&[u8]> {
     Some(target)
 }
 
-/// Says of a requested script that it is a source: its target may be meant.
+/// Says that a requested script is a source: its target may be meant.
 pub(crate) fn say_scripts<H: Runtime>(
     rt: &H,
     alloc: Global,

@@ -12,9 +12,9 @@ use std::alloc::{AllocError, Global};
 #[derive(Drop)]
 pub(crate) struct Found {
     pub(crate) notes: Notes,
-    /// How many files builds left that this one doesn't need, where it is a build of `all` and went well.
+    /// How many built files this build doesn't need; 0 unless it is a good build of `all`.
     pub(crate) dead: usize,
-    /// Whether nothing is stale that is to be refused.
+    /// Whether `--strict` isn't given, or has nothing to refuse.
     pub(crate) is_fine: bool,
 }
 
@@ -25,8 +25,8 @@ impl Found {
     }
 }
 
-/// How many files builds left that this one doesn't need. Where it isn't one of `all`, others may, and where a target isn't
-/// built, what it needs isn't known.
+/// Counts the built files that this build doesn't need. Returns 0 unless it is a good build of `all`: other builds
+/// may need them, and what a failed target needs isn't known.
 fn dead_of(alloc: Global, build: &BuildOptions, built: &Built<'_>) -> Result<usize, AllocError> {
     let is_of_all = build
         .targets

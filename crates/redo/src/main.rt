@@ -4,6 +4,7 @@
 #![tactic(auto)]
 
 ghost use Rattle.std.specs.Prelude.{◌≡◌, false};
+ghost use Rattle.redo_core.specs.Permits.{IsUnused};
 
 mod after;
 mod behind;
@@ -29,6 +30,7 @@ mod version;
 
 use progress::Progress;
 use redo_bundle::Plain;
+use redo_core::permit::Permit;
 use redo_dir::{DirLock, LockFault, Lockable, SystemDir, lock_dir};
 use redo_line::{Action, BuildOptions, Call, Dead, Input, Voice, read_call};
 use redo_path::Path;
@@ -57,12 +59,12 @@ fn main(rt: HostRuntime) -> ExitCode {
     };
     let mut cause = Cause::new(alloc);
     let progress = Progress::new(&rt, voice);
-    let host = Host {
+    let mut host = Host {
         rt: &rt,
-        alloc,
+        permit: Permit::new(&rt, alloc),
         observer: &progress,
     };
-    match run(&host, &action, voice, &mut cause) {
+    match run(&mut host, &action, voice, &mut cause) {
         Ok(good) => ExitCode::from(status::of_good(good)),
         Err(fault) => {
             let status = tell_fault(&rt, fault);
@@ -92,13 +94,13 @@ fn with_request(alloc: Global, action: Action) -> Result<Action, AllocError> {
     }
 }
 
-/// Says a fault in the program's words. Returns the exit status.
+/// Shows a fault's message. Returns the exit status.
 fn tell_fault(rt: &HostRuntime, fault: Fault) -> u8 {
     let _shown = eprintln!(rt; "redo: {fault}");
     status::of_fault(fault)
 }
 
-/// Shows a cause behind a message, if it is known and there is memory for its words.
+/// Shows the cause of a message, if it is known and memory suffices for its words.
 fn show_cause<E: Drop>(rt: &HostRuntime, cause: Result<Option<String>, E>) {
     if let Ok(Some(words)) = cause {
         let _shown = eprintln!(rt; "redo: {words}");
@@ -107,7 +109,7 @@ fn show_cause<E: Drop>(rt: &HostRuntime, cause: Result<Option<String>, E>) {
 
 /// Does what was asked for, and returns whether all went well.
 fn run<H: Runtime + Threads + Wait + Sync>(
-    host: &Host<'_, H, Progress<'_>>,
+    host: &mut Host<'_, H, Progress<'_>>,
     action: &Action,
     voice: Voice,
     cause: &mut Cause,
@@ -115,8 +117,9 @@ fn run<H: Runtime + Threads + Wait + Sync>(
 where
     H::File: Send + Lockable,
     H::Dir: Send,
+    requires permit { IsUnused host.old.permit }
 {
-    let (rt, alloc) = (host.rt, host.alloc);
+    let (rt, alloc) = (host.rt, host.alloc());
     match action {
         Action::Build(build) => building::build(host, build, voice, cause),
         Action::Whichdo(target, input) => list(host, target, input, cause),
@@ -176,10 +179,10 @@ where
     match input {
         Input::Bundle => {
             let mut reader = Plain::new(host.rt.reader());
-            Ok(whichdo_bundle(host.alloc, &mut reader, &mut writer, target, cause)?)
+            Ok(whichdo_bundle(host.alloc(), &mut reader, &mut writer, target, cause)?)
         }
         Input::Directory(dir) => {
-            let dir = SystemDir::new(host.rt, host.alloc, dir);
+            let dir = SystemDir::new(host.rt, host.alloc(), dir);
             let (found, passed) = whichdo_dir(host, &dir, &mut writer, target, cause)?;
             note_passed(host.rt, passed);
             Ok(found)

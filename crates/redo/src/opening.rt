@@ -11,7 +11,8 @@ use std::alloc::Global;
 use std::rt::Runtime;
 use std::thread::Threads;
 
-/// The past of a directory's tree, as a run goes on with it, and how many names were passed over. So many threads read it.
+/// Reads a directory with `workers` threads, and opens its past as a run would. Returns it, and how many names were
+/// passed over.
 pub(crate) fn past_in<H: Runtime + Threads + Sync, D: WorkDir + Sync>(
     rt: &H,
     alloc: Global,

@@ -10,7 +10,7 @@ use std::io;
 use std::path::Path as SystemPath;
 use std::rt::Runtime;
 
-/// So many names are said at most.
+/// At most this many names are shown.
 const MOST: usize = 10;
 
 /// What to do about links.
@@ -19,11 +19,11 @@ const LINKS: &[u8] = b"redo follows no link below the top: put the files themsel
 /// Why a name was passed over.
 #[derive(Clone, Copy)]
 enum Why {
-    /// It isn't UTF-8, so what it is isn't known either.
+    /// It isn't UTF-8, so its kind isn't known, either.
     NoText,
-    /// No path has it: it holds a control byte, or is too long.
+    /// It can't be part of a path: it holds a control byte, or is too long.
     NoPath,
-    /// It is neither that of a file nor that of a directory.
+    /// It names neither a file nor a directory.
     NoFile,
 }
 
@@ -114,8 +114,8 @@ fn is_link<H: Runtime>(
     }
 }
 
-/// Says which names of a directory were passed over when this tree was read: the first of them, how many more, and what to do
-/// about links.
+/// Shows the first names that were passed over when this tree was read, how many more there are, and what to do about
+/// links.
 fn say_names<H: Runtime>(
     rt: &H,
     alloc: Global,
@@ -154,8 +154,8 @@ fn say_names<H: Runtime>(
     Ok(())
 }
 
-/// Says which names of a directory were passed over, if notes are said. Where the directory can't be read any more, the
-/// rest is left out.
+/// Shows the names of a directory that were passed over, if notes are shown. Leaves out the rest once the directory
+/// can't be read, or memory runs out.
 pub(crate) fn note_names<H: Runtime>(rt: &H, alloc: Global, voice: Voice, dir: &str, tree: &Tree) {
     if voice.notes {
         let _said = say_names(rt, alloc, voice, dir, tree);

@@ -9,16 +9,16 @@ use std::sync::atomic::AtomicU64;
 use std::sync::atomic::Ordering::Relaxed;
 use std::time::Instant;
 
-/// For so many milliseconds of a build nothing is shown.
+/// Nothing is shown before a build has taken this many milliseconds.
 const PATIENCE: u64 = 300;
 
-/// So many milliseconds lie between two lines, at least.
+/// The least time between two lines, in milliseconds.
 const PAUSE: u64 = 100;
 
-/// At most so many events are passed over between two looks at the clock.
+/// The most events that are skipped between two readings of the clock.
 const MOST_PASSED: u64 = 64;
 
-/// Shows how far a build is, where it is to. Only the thread with the board shows it, and no other reads what is noted
+/// Shows how far a build is, if that is wanted. Only the thread that has the board reads and writes what is noted
 /// here.
 #[derive(Drop)]
 pub(crate) struct Progress<'a> {
@@ -27,11 +27,11 @@ pub(crate) struct Progress<'a> {
     is_shown: bool,
     /// When the build began; none if nothing is to be shown.
     began: Option<Instant>,
-    /// How many events are passed over between two looks at the clock. A look may cost more than a short script.
+    /// How many events to skip between two readings of the clock. A reading may cost more than a short script.
     stride: AtomicU64,
-    /// How many events are passed over before the next look.
+    /// How many events to skip before the next reading.
     passes: AtomicU64,
-    /// When the clock was looked at last, in milliseconds from the beginning.
+    /// When the clock was last read, in milliseconds from the beginning.
     looked: AtomicU64,
     /// When the last line was shown; 0 if none was.
     shown: AtomicU64,
@@ -62,8 +62,8 @@ impl<'a> Progress<'a> {
         u64::try_from(elapsed.as_millis()).ok()
     }
 
-    /// Looks at the clock, unless this event is passed over. Where events follow one another within a millisecond, more of
-    /// them are passed over from now on.
+    /// Reads the clock, in milliseconds from the beginning, unless this event is skipped. If events follow one
+    /// another within a millisecond, skips more of them from now on.
     fn look(&self) -> Option<u64> {
         let passes = self.passes.load(Relaxed);
         if passes > 0 {

@@ -1,4 +1,4 @@
-//! Questions to the book of the last run.
+//! Questions to the previous run's book.
 
 use crate::lists::list_in;
 use crate::note_passed;
@@ -44,8 +44,8 @@ where
     }
 }
 
-/// Prints which targets of the book are out of date, and returns whether none is. With targets it tells of a run that
-/// requests these alone.
+/// Prints which targets of the book are out of date, and returns whether none is. With targets, the list is about a
+/// run that requests only these.
 pub(crate) fn list_out_of_date<H: Runtime + Threads + Sync>(
     rt: &H,
     alloc: Global,
@@ -82,7 +82,7 @@ where
     Ok(true)
 }
 
-/// Says that the book doesn't know a path, and which name is the nearest that it knows.
+/// Says that the book doesn't know a path, and names the nearest one that it knows, if there is one.
 fn show_unknown<H: Runtime>(rt: &H, nearest: Option<&Path>) {
     let _shown = match nearest {
         Some(path) => {

@@ -1,10 +1,10 @@
 //! Exit statuses, and the words on standard error.
 
+use redo_book::BookFault;
 use redo_bundle::{Broken, BundleFault};
 use redo_dir::LockFault;
 use redo_line::status::{FAILED, GOOD, INPUT, MEMORY, OUTPUT, TOO_MANY};
 use redo_pack::PackFault;
-use redo_past::PastFault;
 use redo_run::{RunDirFault, RunIoFault};
 use std::alloc::AllocError;
 use std::fmt;
@@ -19,7 +19,7 @@ pub(crate) fn of_good(good: bool) -> u8 {
 pub(crate) enum Fault {
     Bundle(BundleFault),
     Directory,
-    /// The book of the last run has a fault, first in this line, counted from 1.
+    /// The previous run's book has its first fault in this line, counted from 1.
     Book(u64),
     TooMany,
     /// Another run is at work in the directory.
@@ -30,7 +30,7 @@ pub(crate) enum Fault {
     NotEmpty,
     /// The journal can't be written.
     Journal,
-    /// What a run has left that was broken off can't be cleared away.
+    /// What a broken-off run has left can't be cleared away.
     Left,
     /// A file can't be stored.
     Unstored,
@@ -64,11 +64,11 @@ impl From<BundleFault> for Fault {
     }
 }
 
-impl From<PastFault> for Fault {
-    fn from(fault: PastFault) -> Fault {
+impl From<BookFault> for Fault {
+    fn from(fault: BookFault) -> Fault {
         match fault {
-            PastFault::Book(line) => Fault::Book(line),
-            PastFault::Memory => Fault::Memory,
+            BookFault::Line(line) => Fault::Book(line),
+            BookFault::Memory => Fault::Memory,
         }
     }
 }

@@ -26,7 +26,7 @@ fn taken_in<H: Runtime + Threads + Sync, D: WorkDir + Sync>(
 where
     D::Draft: Send,
 {
-    let (rt, alloc, workers) = (host.rt, host.alloc, build.workers);
+    let (rt, alloc, workers) = (host.rt, host.alloc(), build.workers);
     if build.take.is_empty() {
         return Ok(Vec::new(alloc));
     }
@@ -77,7 +77,7 @@ fn made_of<'a>(
     Ok(made)
 }
 
-/// A line for each of some files that are taken back, at most so many.
+/// A line for each file that is taken back, at most `most` of them, and how many more there are.
 fn lines_of(
     alloc: Global,
     words: &str,

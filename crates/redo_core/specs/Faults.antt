@@ -9,8 +9,8 @@ use Rattle.redo_core.specs.declared.opening.OpenFault.{OpenFault}
 use Rattle.redo_core.specs.declared.opening.OpenFault.TheVariants.{Book as Opened_without_book}
 use Rattle.redo_core.specs.declared.opening.OpenFault.TheVariants.{TooMany as Opened_too_many}
 use Rattle.redo_core.specs.declared.opening.OpenFault.TheVariants.{Memory as Opened_without_memory}
-use Rattle.redo_past.specs.declared.faults.PastFault.{PastFault}
-use Rattle.redo_past.specs.declared.faults.PastFault.TheVariants as pasts
+use Rattle.redo_book.specs.declared.faults.BookFault.{BookFault}
+use Rattle.redo_book.specs.declared.faults.BookFault.TheVariants as books
 use Rattle.redo_core.specs.declared.board.HandFault.{HandFault}
 use Rattle.redo_core.specs.declared.board.HandFault.TheVariants.{Stranger, TooMany, Memory}
 
@@ -25,9 +25,9 @@ opening_fault_of Stopped_at_limit = Opened_too_many
 opening_fault_of Stopped_for_memory = Opened_without_memory
 
 -- why no build was opened, if the tree has no past
-abbrev pub past_fault_of : PastFault → OpenFault
-past_fault_of (pasts.Book line) = Opened_without_book line
-past_fault_of pasts.Memory = Opened_without_memory
+abbrev pub past_fault_of : BookFault → OpenFault
+past_fault_of (books.Line line) = Opened_without_book line
+past_fault_of books.Memory = Opened_without_memory
 
 -- the board is of the same build
 abbrev pub IsSameBuild : BoardView → BoardView → Type 0

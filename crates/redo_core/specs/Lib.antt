@@ -1,4 +1,5 @@
 pub mod Views
 pub mod Faults
+pub mod Permits
 pub mod Taken
 pub mod inside

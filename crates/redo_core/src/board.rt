@@ -3,7 +3,7 @@
 //! A caller opens a board, takes works and hands their pieces in, in whatever order, until the board is quiet or has
 //! stopped. Nothing here runs a script or waits: that is left to the caller, on one thread or on many.
 ghost use Rattle.std.specs.Prelude.{◌≡◌, ◌↔◌, ◌<◌, ◌≤◌, ◌+◌, ◌*◌, IsTrue, IsNone, IfOk, IfErr, OnOk, OnErr, length};
-ghost use Rattle.std.specs.Prelude.{Err, Some, None, ℕ};
+ghost use Rattle.std.specs.Prelude.{slice_get, Err, Some, None, ℕ};
 ghost use Rattle.std.specs.Arc.{arc_value};
 ghost use Rattle.redo_rules.specs.Results.{IsGiven, IsRefused, IsResult, NeedsTooMany};
 ghost use Rattle.redo_core.specs.Views.{ready_count, jobs_out, seen_count, decided_count, after, rules_on, request_on, limit_on, IsQuietBoard};
@@ -12,6 +12,7 @@ ghost use Rattle.redo_build.specs.Outcomes.{IsTooMany};
 ghost use Rattle.redo_build.specs.Schedule.{Event, IsOutAt, IsOpen};
 ghost use Rattle.redo_build.specs.Schedule.Event.{Take, Hand_in};
 ghost use Rattle.redo_core.specs.Faults.{Refused};
+ghost use Rattle.redo_core.specs.Permits.{IsUnused, IsUsed};
 ghost use Rattle.redo_build.specs.TakesLeft.{takes_left};
 ghost use Rattle.redo_build.specs.Theorems.{IsPartOfBuild, ShowsBuild};
 
@@ -19,6 +20,7 @@ use crate::build::Build;
 use crate::finish::report_of;
 use crate::given::Given;
 use crate::opening::OpenFault;
+use crate::permit::Permit;
 use crate::table::{Stage, Table};
 use crate::work::{Piece, Work};
 use redo_past::{Past, RunReport};
@@ -116,11 +118,13 @@ impl Board {
     /// tree has a book of the last run, the book and the generated files are set aside: the build is that of the
     /// sources. A book with a fault is reported before too many targets.
     pub fn open(
-        alloc: Global,
+        permit: &mut Permit,
         tree: Arc<Tree>,
         request: &[Path],
         limits: Limits,
     ) -> Result<Board, OpenFault>
+        requires permit { IsUnused permit.old }
+        ensures used { OnOk result (IsUsed permit.new) }
         ensures ok { IfOk result (IsOpened (arc_value tree) request.now limits) }
         ensures within { IfOk result (λ b. length b.state.entries ≤ limits.targets) }
         ensures part { IfOk result (λ b. IsPartOfBuild (rules_on b) (request_on b) (limit_on b) b.state) }
@@ -129,25 +133,28 @@ impl Board {
         ensures book { (n : ℕ) → result ≡ Err (OpenFault.Book n) → IsRefused (arc_value tree) n }
         ensures too_many { result ≡ Err OpenFault.TooMany → NeedsTooMany (arc_value tree) request.now limits }
     {
-        let past = Past::open(alloc, Tree::clone(&tree)?)?;
-        Board::over(alloc, past, request, limits)
+        let past = Past::open(permit.alloc(), Tree::clone(&tree)?)?;
+        Ok(Board::over(permit, past, request, limits)?)
     }
 
     /// The same as [`Board::open`], over a past, whose book has been read.
     pub fn over(
-        alloc: Global,
+        permit: &mut Permit,
         past: Past,
         request: &[Path],
         limits: Limits,
-    ) -> Result<Board, OpenFault>
+    ) -> Result<Board, Stop>
+        requires permit { IsUnused permit.old }
+        ensures used { IsUsed permit.new }
         ensures ok { IfOk result (IsOpened past.tree request.now limits) }
         ensures within { IfOk result (λ b. length b.state.entries ≤ limits.targets) }
         ensures part { IfOk result (λ b. IsPartOfBuild (rules_on b) (request_on b) (limit_on b) b.state) }
         ensures none_out { IfOk result (λ b. jobs_out b ≡ 0) }
         ensures left { IfOk result (λ b. takes_left (limit_on b) b.state ≤ limit_on b * limit_on b) }
-        ensures book { (n : ℕ) → result ≡ Err (OpenFault.Book n) → ⊥ }
-        ensures too_many { result ≡ Err OpenFault.TooMany → NeedsTooMany past.tree request.now limits }
+        ensures too_many { result ≡ Err Stop.TooMany → NeedsTooMany past.tree request.now limits }
     {
+        permit.use_up();
+        let alloc = permit.alloc();
         past.is_past();
         let given = Given::new(alloc, past, request, limits)?;
         let build = Build::new(alloc, given)?;
@@ -179,6 +186,15 @@ impl Board {
             IsTooMany (rules_on self.now) (request_on self.now) (limit_on self.now) }
     {
         self.stopped
+    }
+
+    /// The ready target at this index of the queue, counted from 0.
+    pub fn ready_at(&self, which: usize) -> &Path
+        requires { which < ready_count self.now }
+        ensures { slice_get self.now.state.ready which ≡ Some result.now }
+    {
+        let at = self.table.schedule.ready_at(which);
+        self.table.targets.at(at as usize)
     }
 
     /// Takes the ready target at this index of the queue. The others close up.

@@ -7,8 +7,8 @@
 //! above takes, advances and hands in.
 //!
 //! - `laws`: what a board has taken, as the contract of a function that does nothing.
-//! - `board`: the board; `table`, `moves` and `first` are its inside, and `same` compares by value; `opening`: why none
-//!   was opened.
+//! - `board`: the board; `table`, `moves` and `first` are its inside, and `same` compares by value; `permit`: what it
+//!   takes to open one; `opening`: why none was opened.
 //! - `check`: how far the check of a target has come; `moves` makes the looks.
 //! - `work`, `facts`, `fact`: a job on its way to a worker and back, and the decided targets that it knows; `scripts`:
 //!   its script, as it is read.
@@ -27,6 +27,7 @@ mod given;
 pub mod laws;
 mod moves;
 pub mod opening;
+pub mod permit;
 mod same;
 mod scripts;
 mod table;

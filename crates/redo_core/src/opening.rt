@@ -2,7 +2,7 @@
 ghost use Rattle.std.specs.Prelude.{◌≡◌};
 
 use crate::board::Stop;
-use redo_past::PastFault;
+use redo_book::BookFault;
 use std::alloc::AllocError;
 use thiserror::Error;
 
@@ -20,15 +20,15 @@ pub enum OpenFault {
     Memory,
 }
 
-impl From<PastFault> for OpenFault {
+impl From<BookFault> for OpenFault {
     ghost use Rattle.redo_core.specs.Faults.{past_fault_of};
 
     ghost from_gives = { λ error fault. fault ≡ past_fault_of error };
 
-    fn from(error: PastFault) -> OpenFault {
+    fn from(error: BookFault) -> OpenFault {
         match error {
-            PastFault::Book(line) => OpenFault::Book(line),
-            PastFault::Memory => OpenFault::Memory,
+            BookFault::Line(line) => OpenFault::Book(line),
+            BookFault::Memory => OpenFault::Memory,
         }
     }
 }

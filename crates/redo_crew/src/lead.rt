@@ -1,13 +1,14 @@
 //! What the owner does with the word and the bell.
 
-ghost use Rattle.std.specs.Prelude.{◌≡◌, IfNone, IfSome, true, false};
-ghost use Rattle.redo_crew.specs.declared.counts.Step.TheVariants.{Claim, End};
+ghost use Rattle.std.specs.Prelude.{◌≡◌, IfNone, IfSome};
+ghost use Rattle.redo_crew.specs.declared.counts.Step.TheVariants as steps;
 ghost use Rattle.redo_crew.specs.Word.{IsOffer};
 ghost use Rattle.redo_crew.specs.Crews.{IsFirstOf};
 ghost use Rattle.redo_crew.specs.Deeds.{HasStepped, IsFull, IsRefused, rung_often, seen, uncalled, unstarted};
 ghost use Rattle.redo_crew.specs.Offers.{HasOffered};
 ghost use Rattle.redo_crew.specs.Tracks.{took};
 
+use crate::claim::Claim;
 use crate::counts::{Counts, Step};
 use crate::crew::Crew;
 use crate::member::{First, Member, never};
@@ -88,17 +89,21 @@ impl<'c> Lead<'c> {
         }
     }
 
-    /// Takes the right to a job that waits in the relay. Returns false if none waits.
-    pub fn claim<R: Wait>(&mut self, rt: &R) -> bool
-        ensures claimed { result ≡ true → HasStepped Claim self.old self.new }
-        ensures none { result ≡ false → IsRefused Claim self.old self.new }
+    /// Takes the right to a job that waits in the relay; `None` if none waits.
+    pub fn claim<R: Wait>(&mut self, rt: &R) -> Option<Claim>
+        ensures claimed { IfSome result (λ _. HasStepped steps.Claim self.old self.new) }
+        ensures none { IfNone result (IsRefused steps.Claim self.old self.new) }
     {
-        self.member.step(rt, Step::Claim)
+        if self.member.step(rt, Step::Claim) {
+            Some(Claim::by_step())
+        } else {
+            None
+        }
     }
 
     /// Ends the run: each worker learns of it when it looks for its next job, and each sleeper by a ring.
     pub fn end<R: Wait>(self, rt: &R) -> Ended<'c>
-        ensures { result.steps ≡ took End self.entry.steps }
+        ensures { result.steps ≡ took steps.End self.entry.steps }
     {
         let Lead { mut member } = self;
         let sleepers = take_end(rt, &mut member);
@@ -124,7 +129,7 @@ fn offered<R: Wait>(rt: &R, member: &mut Member<'_>) -> Option<Step>
 
 /// Takes the step that ends the run. Returns how many sleepers weren't called.
 fn take_end<R: Wait>(rt: &R, member: &mut Member<'_>) -> u8
-    ensures ended { HasStepped End member.old member.new }
+    ensures ended { HasStepped steps.End member.old member.new }
     ensures uncalled { result ≡ uncalled (seen member.new) }
 {
     'tries: for _ in rt.forever() {

@@ -6,9 +6,9 @@
 //! all threads, which each remembers without a byte, make of the first word.
 //!
 //! The owner has a [`Lead`]. It puts a job into a relay and calls `offer`, which rings for a sleeper or asks for a new
-//! worker if too few look. A worker calls `find`, takes a job from the relay, advances it, sends the piece and calls
-//! `back`. It looks for some microseconds before it sleeps. The owner may `claim` a job that waits, and calls `end` when
-//! the run is over, which rings for each sleeper that isn't called.
+//! worker if too few look. A worker calls `find`, takes up its right to a job, takes one from the relay, advances it, sends
+//! the piece and calls `back`. It looks for some microseconds before it sleeps. The owner may `claim` a job that waits, and
+//! calls `end` when the run is over, which rings for each sleeper that isn't called.
 //!
 //! ```text
 //!                 offer: Hire             Take                  back: Return
@@ -31,10 +31,12 @@
 //! workers. They speak of steps; of threads, the system's sleep and its scheduler they say nothing.
 //!
 //! - `counts`: the counts, their steps and capacities; `word`, `bell`: the two under their rules; `crew`: what threads
-//!   share; `member`: what one of them has of it; `lead`, `worker`: what each side does; `laws`: laws.
+//!   share; `member`: what one of them has of it; `lead`, `worker`: what each side does; `claim`: the right to a job;
+//!   `laws`: laws.
 #![tactic(auto)]
 
 mod bell;
+mod claim;
 mod counts;
 mod crew;
 pub mod laws;
@@ -43,8 +45,9 @@ mod member;
 mod word;
 mod worker;
 
+pub use claim::Claim;
 pub use counts::{Counts, MOST_WORKERS, OUT_FOR_EACH, PLACES, Step};
 pub use crew::Crew;
 pub use lead::{Ended, Lead, Offer};
 pub use member::First;
-pub use worker::{Holding, Leaving, Looking};
+pub use worker::{Busy, Holding, Leaving, Looking};

@@ -1,13 +1,14 @@
 //! What a worker does with the word and the bell.
 //!
-//! A worker has a token for what it is at: [`Looking`], then [`Holding`], and in between, while it sleeps, `Asleep` and
-//! `Told`. Each says which steps its thread has taken and how many rings it has heard.
+//! A worker has a token for what it is at: [`Looking`], then [`Holding`] and [`Busy`], and in between, while it sleeps,
+//! `Asleep` and `Told`. Each says which steps its thread has taken and how many rings it has heard.
 
 ghost use Rattle.std.specs.Prelude.{◌≡◌, IfOk, IfErr, true, false};
 ghost use Rattle.redo_crew.specs.declared.counts.Step.TheVariants.{Wake};
 ghost use Rattle.redo_crew.specs.Deeds.{HasFoundNone, HasOnlyLooked, HasStepped, HasTaken, IsBack, seen, told, unstarted};
 ghost use Rattle.redo_crew.specs.Offers.{HasFound};
 
+use crate::claim::Claim;
 use crate::counts::{Counts, Step};
 use crate::member::Member;
 use std::hint::spin_loop;
@@ -62,13 +63,29 @@ impl<'c> Model for Told<'c> {
     ghost invariant = { λ w. IsTold w.member };
 }
 
-/// Of a worker that has a right to a job in the relay, and isn't back from it.
+/// Of a worker that has a right to a job in the relay.
 #[derive(Drop)]
 pub struct Holding<'c> {
     member: Member<'c>,
 }
 
 impl<'c> Model for Holding<'c> {
+    ghost use Rattle.redo_crew.specs.Deeds.{Deeds, IsHolding};
+
+    ghost Value = { Deeds };
+
+    ghost view = { λ w. w.member };
+
+    ghost invariant = { λ w. IsHolding w.member };
+}
+
+/// Of a worker that has taken up its right to a job, and isn't back from it.
+#[derive(Drop)]
+pub struct Busy<'c> {
+    member: Member<'c>,
+}
+
+impl<'c> Model for Busy<'c> {
     ghost use Rattle.redo_crew.specs.Deeds.{Deeds, IsHolding};
 
     ghost Value = { Deeds };
@@ -176,12 +193,22 @@ impl<'c> Told<'c> {
 }
 
 impl<'c> Holding<'c> {
+    /// Takes up the right to the job, once.
+    pub fn take_up(self) -> (Claim, Busy<'c>)
+        ensures { result.1 ≡ self.entry }
+    {
+        let Holding { member } = self;
+        (Claim::by_step(), Busy { member })
+    }
+}
+
+impl<'c> Busy<'c> {
     /// A worker is back from its job, and looks for the next one; an error once the run is over.
     pub fn back<R: Wait>(self, rt: &R) -> Result<Looking<'c>, Leaving<'c>>
         ensures back { IfOk result (IsBack self.entry) }
         ensures over { IfErr result (HasFoundNone self.entry) }
     {
-        let Holding { mut member } = self;
+        let Busy { mut member } = self;
         if member.step(rt, Step::Return) {
             return Ok(Looking { member });
         }

@@ -7,8 +7,8 @@ use Rattle.redo_dir.specs.declared.faults.LoadFault.{LoadFault}
 use Rattle.redo_dir.specs.declared.faults.LoadFault.TheVariants as load
 use Rattle.redo_dir.specs.declared.faults.StoreFault.{StoreFault}
 use Rattle.redo_dir.specs.declared.faults.StoreFault.TheVariants as store
-use Rattle.redo_past.specs.declared.faults.PastFault.{PastFault}
-use Rattle.redo_past.specs.declared.faults.PastFault.TheVariants as past
+use Rattle.redo_book.specs.declared.faults.BookFault.{BookFault}
+use Rattle.redo_book.specs.declared.faults.BookFault.TheVariants as books
 use Rattle.redo_run.specs.declared.run_fault.RunFault.{RunFault}
 use Rattle.redo_run.specs.declared.run_fault.RunFault.TheVariants as build
 use Rattle.redo_run.specs.declared.dir_fault.RunDirFault.{RunDirFault}
@@ -23,9 +23,9 @@ of_run (build.Book line) = run.Book line
 of_run build.TooMany = run.TooMany
 of_run build.Memory = run.Memory
 
-abbrev pub of_past : PastFault → RunDirFault
-of_past (past.Book line) = run.Book line
-of_past past.Memory = run.Memory
+abbrev pub of_past : BookFault → RunDirFault
+of_past (books.Line line) = run.Book line
+of_past books.Memory = run.Memory
 
 -- what couldn't be cleared away isn't told by its place
 abbrev pub of_left : StoreFault → RunDirFault

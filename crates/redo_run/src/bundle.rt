@@ -2,6 +2,7 @@
 
 ghost use Rattle.std.specs.Prelude.{◌≡◌, ◌↔◌, false, IfOk, IfSome, IsErrOf, true};
 ghost use Rattle.redo_bundle.specs.declared.faults.BundleFault.TheVariants as bundle_faults;
+ghost use Rattle.redo_core.specs.Permits.{IsUnused};
 ghost use Rattle.redo_run.specs.Runs.{Explains, ExplainsList, IsUntouched, Lists, Reports};
 
 use crate::candidates::text_of_search;
@@ -37,12 +38,13 @@ pub struct BundleRun {
 /// and flush it afterwards. What is returned holds all memory of the run. A program that ends with the run may forget
 /// it, rather than free it piece by piece.
 pub fn run_bundle<H: Threads + Wait + Sync, R: ByteIn, W: ByteOut, O: Observer>(
-    host: &Host<'_, H, O>,
+    host: &mut Host<'_, H, O>,
     reader: &mut R,
     writer: &mut W,
     options: &Options,
     cause: &mut Cause,
 ) -> Result<BundleRun, RunIoFault>
+    requires permit { IsUnused host.old.permit }
     requires reader { R.has_failed reader.old ≡ false }
     requires writer { W.has_failed writer.old ≡ false }
     ensures report { IfOk result (λ run. IfSome (R.left reader.old)
@@ -54,14 +56,14 @@ pub fn run_bundle<H: Threads + Wait + Sync, R: ByteIn, W: ByteOut, O: Observer>(
     ensures device { IsErrOf result RunIoFault.Device ↔ (W.has_failed writer.new ≡ true) }
     ensures memory { IsErrOf result (RunIoFault.Bundle bundle_faults.Memory) → ⊥ }
 {
-    let tree = read_bundle_by_line(host.alloc, reader, &mut cause.header)?;
+    let tree = read_bundle_by_line(host.alloc(), reader, &mut cause.header)?;
     let (limits, workers) = (options.limits, options.workers);
-    let request = requested(host.alloc, &options.targets)?;
-    let past = past_of(host.rt, host.alloc, tree, workers)?;
+    let request = requested(host.alloc(), &options.targets)?;
+    let past = past_of(host.rt, host.alloc(), tree, workers)?;
     let kept = past.share()?;
     let report = report_over::<Brand, H, O>(host, past, &request, limits, workers)?;
-    let exit = exit_after(host.alloc, &report, &request)?;
-    report.write(host.alloc, writer)?;
+    let exit = exit_after(host.alloc(), &report, &request)?;
+    report.write(host.alloc(), writer)?;
     Ok(BundleRun {
         exit,
         past: kept,

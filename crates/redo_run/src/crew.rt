@@ -3,6 +3,7 @@
 ghost use Rattle.std.specs.Prelude.{◌≡◌, ◌≤◌, [], length, map, vec_capacity};
 
 use crate::observer::Observer;
+use crate::right::Right;
 use crossbeam_channel::Sender;
 use redo_crew::{Ended, Looking};
 use redo_sync::{JobTaker, Numbered, Taken};
@@ -38,9 +39,12 @@ pub(crate) struct Shared<'s, R, O> {
     pub observer: &'s O,
 }
 
-/// The job to which a worker, or the owner, has a right. Others may be faster at the one it looks at, but as many wait as
-/// may be taken.
-pub(crate) fn claimed<J: Numbered + Drop, R: Wait>(rt: &R, taker: &mut JobTaker<J>) -> J
+/// Takes a job by the right to one. Others may be faster at the one it looks at, but as many wait as there are rights.
+pub(crate) fn claimed<J: Numbered + Drop, R: Wait>(
+    rt: &R,
+    taker: &mut JobTaker<J>,
+    _right: Right,
+) -> J
     ensures { taker.new.relay ≡ taker.old.relay }
 {
     'looks: for _ in rt.forever() {
@@ -66,9 +70,10 @@ pub(crate) fn work<J: Advance<M, O>, M: Drop, R: Wait, O: Observer>(
         let Ok(holding) = next else {
             break;
         };
-        let job = claimed(rt, &mut taker);
+        let (claim, busy) = holding.take_up();
+        let job = claimed(rt, &mut taker, Right::by_claim(claim));
         let _ = pieces.send(rt, job.advance(observer));
-        next = match holding.back(rt) {
+        next = match busy.back(rt) {
             Ok(looking) => looking.find(rt),
             Err(leaving) => Err(leaving),
         };

@@ -4,9 +4,9 @@ ghost use Rattle.std.specs.Prelude.{◌≡◌};
 ghost use Rattle.redo_run.specs.DirFaults.{of_left as left_fault};
 
 use crate::RunFault;
+use redo_book::BookFault;
 use redo_bundle::Broken;
 use redo_dir::{JournalFault, LoadFault, StoreFault};
-use redo_past::PastFault;
 use std::alloc::{AllocError, AllocFailed};
 use std::io::ErrorKind;
 use thiserror::Error;
@@ -95,15 +95,15 @@ impl From<RunFault> for RunDirFault {
     }
 }
 
-impl From<PastFault> for RunDirFault {
+impl From<BookFault> for RunDirFault {
     ghost use Rattle.redo_run.specs.DirFaults.{of_past};
 
     ghost from_gives = { λ error fault. fault ≡ of_past error };
 
-    fn from(error: PastFault) -> RunDirFault {
+    fn from(error: BookFault) -> RunDirFault {
         match error {
-            PastFault::Book(line) => RunDirFault::Book(line),
-            PastFault::Memory => RunDirFault::Memory,
+            BookFault::Line(line) => RunDirFault::Book(line),
+            BookFault::Memory => RunDirFault::Memory,
         }
     }
 }

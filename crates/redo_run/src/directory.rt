@@ -2,6 +2,7 @@
 
 ghost use Rattle.std.specs.Prelude.{◌≡◌, ◌↔◌, false, IfErr, IfOk, IsErrOf, true};
 ghost use Rattle.std.specs.Arc.{arc_value};
+ghost use Rattle.redo_core.specs.Permits.{IsUnused};
 ghost use Rattle.redo_dir.specs.Loaded.{IsLoaded};
 ghost use Rattle.redo_rules.specs.Results.{IsOfTree};
 ghost use Rattle.redo_run.specs.DirFaults.{of_load};
@@ -163,21 +164,22 @@ struct Built {
 
 /// Builds the targets of a tree.
 fn build<H: Threads + Wait + Sync, O: Observer>(
-    host: &Host<'_, H, O>,
+    host: &mut Host<'_, H, O>,
     tree: Tree,
     options: &Options,
 ) -> Result<Built, RunDirFault>
+    requires permit { IsUnused host.old.permit }
     ensures built { IfOk result (λ built. IsBuilt tree options.now built.report built.exit) }
     ensures past { IfOk result (λ built. IsOfTree tree built.past) }
     ensures refused { IfErr result (IsUnbuilt tree options.now) }
 {
     let (limits, workers) = (options.limits, options.workers);
-    let request = requested(host.alloc, &options.targets)?;
-    let past = past_of(host.rt, host.alloc, tree, workers)?;
+    let request = requested(host.alloc(), &options.targets)?;
+    let past = past_of(host.rt, host.alloc(), tree, workers)?;
     let kept = past.share()?;
     let report = report_over::<Brand, H, O>(host, past, &request, limits, workers)?;
-    let exit = exit_after(host.alloc, &report, &request)?;
-    let report = report.into_report(host.alloc)?;
+    let exit = exit_after(host.alloc(), &report, &request)?;
+    let report = report.into_report(host.alloc())?;
     Ok(Built {
         past: kept,
         report,
@@ -194,10 +196,11 @@ struct OfMended {
 
 /// Builds the targets of a mended tree without the files that are to be taken back.
 fn build_mended<H: Threads + Wait + Sync, O: Observer>(
-    host: &Host<'_, H, O>,
+    host: &mut Host<'_, H, O>,
     mended: Tree,
     options: &Options,
 ) -> Result<OfMended, RunDirFault>
+    requires permit { IsUnused host.old.permit }
     ensures mended { IfOk result (λ of. arc_value of.mended ≡ mended) }
     ensures past { IfOk result (λ of. IsOfTree (to_build options.now mended) of.built.past) }
     ensures built { IfOk result (λ of.
@@ -209,9 +212,9 @@ fn build_mended<H: Threads + Wait + Sync, O: Observer>(
         let mended = Arc::try_clone(built.past.tree())?;
         return Ok(OfMended { mended, built });
     }
-    let tree = mended.without(host.alloc, &options.taken)?;
+    let tree = mended.without(host.alloc(), &options.taken)?;
     let built = build(host, tree, options)?;
-    let mended = Arc::new(host.alloc, mended)?;
+    let mended = Arc::new(host.alloc(), mended)?;
     Ok(OfMended { mended, built })
 }
 
@@ -226,22 +229,23 @@ struct Foreseen {
 
 /// Reads a directory, mends its tree, builds the targets, and plans what a run stores. The directory stays as it is.
 fn foresee<H: Threads + Wait + Sync, D: WorkDir + Sync, O: Observer>(
-    host: &Host<'_, H, O>,
+    host: &mut Host<'_, H, O>,
     dir: &D,
     options: &Options,
     cause: &mut Cause,
 ) -> Result<Foreseen, RunDirFault>
 where
     D::Draft: Send,
+    requires permit { IsUnused host.old.permit }
     ensures foreseen { IfOk result (IsForeseen (D.lists dir.now) (D.leads dir.now) options.now) }
     ensures fault { IfErr result (IsUnforeseen (D.lists dir.now) (D.leads dir.now) (D.refuses dir.now) options.now) }
 {
-    let (tree, passed) = load_with_book(host.rt, host.alloc, dir, options.workers, cause)?;
+    let (tree, passed) = load_with_book(host.rt, host.alloc(), dir, options.workers, cause)?;
     let over = has_book(&tree);
-    let Mended { tree, left } = mend(host.rt, host.alloc, options.workers, tree)?;
+    let Mended { tree, left } = mend(host.rt, host.alloc(), options.workers, tree)?;
     let OfMended { mended, built } = build_mended(host, tree, options)?;
     let Built { past, report, exit } = built;
-    let new = to_store(host.alloc, &mended, &report.files)?;
+    let new = to_store(host.alloc(), &mended, &report.files)?;
     let plan = Plan {
         left,
         over,
@@ -276,7 +280,7 @@ where
 /// The report goes out in many small pieces: hand in a writer with a buffer, and flush it afterwards. A program that
 /// ends with the run may forget what it returns, rather than free it piece by piece.
 pub fn run_dir<H: Threads + Wait + Sync, D: WorkDir + Sync, W: ByteOut, O: Observer>(
-    host: &Host<'_, H, O>,
+    host: &mut Host<'_, H, O>,
     dir: &mut D,
     writer: &mut W,
     options: &Options,
@@ -284,6 +288,7 @@ pub fn run_dir<H: Threads + Wait + Sync, D: WorkDir + Sync, W: ByteOut, O: Obser
 ) -> Result<DirRun, RunDirFault>
 where
     D::Draft: Send,
+    requires permit { IsUnused host.old.permit }
     requires writer { W.has_failed writer.old ≡ false }
     ensures report { IfOk result (ReportsTree (D.lists dir.old) (D.leads dir.old) options.now
         (D.done dir.old) (D.done dir.new) (W.held writer.old) (W.held writer.new)) }
@@ -300,7 +305,7 @@ where
 
 /// Writes the report that [`run_dir`] would write, and leaves the directory as it is: a run to try out.
 pub fn preview_dir<H: Threads + Wait + Sync, D: WorkDir + Sync, W: ByteOut, O: Observer>(
-    host: &Host<'_, H, O>,
+    host: &mut Host<'_, H, O>,
     dir: &D,
     writer: &mut W,
     options: &Options,
@@ -308,6 +313,7 @@ pub fn preview_dir<H: Threads + Wait + Sync, D: WorkDir + Sync, W: ByteOut, O: O
 ) -> Result<DirRun, RunDirFault>
 where
     D::Draft: Send,
+    requires permit { IsUnused host.old.permit }
     requires writer { W.has_failed writer.old ≡ false }
     ensures report { IfOk result (PreviewsTree (D.lists dir.now) (D.leads dir.now) options.now
         (W.held writer.old) (W.held writer.new)) }
@@ -339,9 +345,9 @@ where
     ensures untouched { IsUnwritten result writer.old writer.new }
     ensures device { IsErrOf result RunDirFault.Device ↔ (W.has_failed writer.new ≡ true) }
 {
-    let (tree, passed) = load(host.rt, host.alloc, dir, 1, cause)?;
-    let found = search(host.alloc, &tree, target)?;
-    let text = text_of_search(host.alloc, &found)?;
+    let (tree, passed) = load(host.rt, host.alloc(), dir, 1, cause)?;
+    let found = search(host.alloc(), &tree, target)?;
+    let text = text_of_search(host.alloc(), &found)?;
     write_all(writer, &text)?;
     Ok((found.chosen.is_some(), passed))
 }

@@ -1,11 +1,20 @@
 //! What whoever asks for a run lends to it.
 
+use redo_core::permit::Permit;
 use std::alloc::Global;
 
-/// What a run is lent by whoever asks for it: threads, memory, and who is told of its progress.
+/// What a run is lent by whoever asks for it: threads, a permit with memory, and who is told of its progress. The permit
+/// is for the one board of the run.
 #[derive(Drop)]
 pub struct Host<'a, H, O> {
     pub rt: &'a H,
-    pub alloc: Global,
+    pub permit: Permit,
     pub observer: &'a O,
+}
+
+impl<'a, H, O> Host<'a, H, O> {
+    /// The memory of the run.
+    pub fn alloc(&self) -> Global {
+        self.permit.alloc()
+    }
 }

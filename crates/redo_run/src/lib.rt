@@ -7,9 +7,10 @@
 //! [`build_one`] the same in one thread, without a relay.
 //!
 //! - `one`: a build by one thread; `workers`: by many, or by one through a relay; `owner`: what the thread with the
-//!   board has and does; `crew`: what the workers do; `pool`: the workers, started and not; `pace`: which jobs are worth
-//!   one; `of_build`: what they send each other; `ended`: what is left once they have ended; `host`: what a run is
-//!   lent; `observer`: who is told of each job; `picks`: a build in a given order;
+//!   board has and does; `crew`: what the workers do; `right`: who may take a job; `pool`: the workers, started and not;
+//!   `pace`: which jobs are worth one; `of_build`: what they send each other; `ended`: what is left once they have ended;
+//!   `host`: what a run is lent; `observer`: who is told of each job; `gate`: an observer that lets each job pass a gate;
+//!   `picks`: a build in a given order;
 //! - `run_fault`: why a build has no report; `exit`: whether every requested path is a source or built;
 //! - `laws`: laws of runs, as contracts of functions that do nothing;
 //! - `bundle`: the two calls over bundles; `options` and `fault`: what they take and refuse; `directory` and
@@ -25,6 +26,7 @@ mod directory;
 mod ended;
 mod exit;
 mod fault;
+mod gate;
 mod host;
 pub mod laws;
 mod observer;
@@ -36,6 +38,7 @@ mod pace;
 mod picks;
 mod pool;
 mod request;
+mod right;
 mod run_fault;
 mod storing;
 mod workers;
@@ -46,6 +49,7 @@ pub use dir_fault::RunDirFault;
 pub use directory::{DirRun, load, load_with_book, preview_dir, run_dir, whichdo_dir};
 pub use exit::Exit;
 pub use fault::RunIoFault;
+pub use gate::{Gate, Gated, NoGate};
 pub use host::Host;
 pub use observer::{NoObserver, Observer};
 pub use of_build::{BuildBrand, JobOf};

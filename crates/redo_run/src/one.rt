@@ -3,6 +3,7 @@
 ghost use Rattle.std.specs.Prelude.{◌≡◌, ◌<◌, Err, IfOk, IsNone, OnOk, ℕ};
 ghost use Rattle.redo_rules.specs.Results.{IsRefused, IsResultOn, NeedsTooMany};
 ghost use Rattle.redo_core.specs.Faults.{IsSameBuild};
+ghost use Rattle.redo_core.specs.Permits.{IsUnused, IsUsed};
 ghost use Rattle.redo_build.specs.Outcomes.{IsTooMany};
 ghost use Rattle.redo_build.specs.TakesLeft.{takes_left};
 ghost use Rattle.redo_run.specs.Skipping.{IsSoundOn, IsUnsafeOn};
@@ -11,12 +12,12 @@ ghost use Rattle.redo_core.specs.Views.{jobs_out, limit_on, ready_count, request
 use crate::RunFault;
 use crate::laws::keeping_is_sound;
 use redo_core::board::{Board, HandFault, Stop};
+use redo_core::permit::Permit;
 use redo_past::Past;
 use redo_path::Path;
 use redo_report::Report;
 use redo_step::Limits;
 use redo_tree::Tree;
-use std::alloc::Global;
 
 /// Takes the target that became ready last, advances its script, and hands it in. So what was just asked for is built
 /// before more is asked for, and few scripts are under way at a time.
@@ -46,11 +47,13 @@ fn advance_newest(board: &mut Board) -> Result<(), Stop>
 /// whose recorded entries all stand is kept, and its script isn't begun. The new book is among the files of the report.
 /// If keeping is safe, the report agrees with that of the sources alone.
 pub fn build_one(
-    alloc: Global,
+    permit: &mut Permit,
     tree: Tree,
     request: &[Path],
     limits: Limits,
 ) -> Result<Report, RunFault>
+    requires permit { IsUnused permit.old }
+    ensures used { OnOk result (IsUsed permit.new) }
     ensures report { IfOk result (IsResultOn tree request.now limits) }
     ensures sound { IfOk result (IsSoundOn tree request.now limits) }
     ensures book { (n : ℕ) → result ≡ Err (RunFault.Book n) → IsRefused tree n }
@@ -59,10 +62,10 @@ pub fn build_one(
 {
     keeping_is_sound();
     tree.is_tree();
-    let past = Past::open(alloc, tree)?;
-    let mut board = Board::over(alloc, past, request, limits)?;
+    let past = Past::open(permit.alloc(), tree)?;
+    let mut board = Board::over(permit, past, request, limits)?;
     while board.ready() > 0 {
         advance_newest(&mut board)?;
     }
-    Ok(board.finish()?.into_report(alloc)?)
+    Ok(board.finish()?.into_report(permit.alloc())?)
 }

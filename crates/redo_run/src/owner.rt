@@ -11,6 +11,7 @@ use crate::observer::Observer;
 use crate::of_build::{BuildBrand, JobOf, Message, PieceOf};
 use crate::pace::Pace;
 use crate::pool::Pool;
+use crate::right::Right;
 use redo_core::board::{Board, HandFault, Stop};
 use redo_core::laws::what_was_taken;
 use redo_crew::Offer;
@@ -55,13 +56,13 @@ fn may_offer(ready: usize, out: usize, most_out: usize) -> bool {
 
 impl<B: BuildBrand> Owner<B> {
     /// Takes the target that became ready last, tells the observer, and gives its job to the relay. So what was just asked
-    /// for is built before more is asked for, and few scripts are under way at a time. Returns whether it is to be offered
-    /// to a worker.
+    /// for is built before more is asked for, and few scripts are under way at a time. Returns the right to the job,
+    /// and whether it is to be offered to a worker.
     fn give_newest<O: Observer>(
         &mut self,
         observer: &O,
         most_out: usize,
-    ) -> Result<bool, AllocError>
+    ) -> Result<(Right, bool), AllocError>
         requires ready { 0 < ready_count self.old.board }
         requires of_build { IsGiven B.tree B.request B.limits self.old.board.given }
         requires running { IsNone self.old.board.stopped }
@@ -76,10 +77,8 @@ impl<B: BuildBrand> Owner<B> {
         observer.given_out(&self.board, work.target(), work.turn());
         let is_for_worker = may_offer(ready, out, most_out)
             && self.pace.is_for_worker(&work, ready, out);
-        match self.source.give(JobOf::new(work)) {
-            Ok(()) => Ok(is_for_worker),
-            Err((_job, error)) => Err(error),
-        }
+        let right = Right::by_giving(&mut self.source, JobOf::new(work))?;
+        Ok((right, is_for_worker))
     }
 
     /// Hands a piece in.
@@ -103,14 +102,19 @@ impl<B: BuildBrand> Owner<B> {
     }
 
     /// Advances a job to which the owner has a right, and hands its piece in.
-    fn advance_claimed<R: Wait, O: Observer>(&mut self, rt: &R, observer: &O) -> Result<(), Stop>
+    fn advance_claimed<R: Wait, O: Observer>(
+        &mut self,
+        rt: &R,
+        observer: &O,
+        right: Right,
+    ) -> Result<(), Stop>
         requires of_build { IsGiven B.tree B.request B.limits self.old.board.given }
         requires running { IsNone self.old.board.stopped }
         ensures same { IsSameOwner self.old self.new }
         ensures kept_up { OnOk result (HasKeptUp self.old self.new) }
         ensures too_many { result ≡ Err Stop.TooMany → NeedsMany self.old }
     {
-        let piece = claimed(rt, &mut self.taker).advance(observer)?;
+        let piece = claimed(rt, &mut self.taker, right).advance(observer)?;
         self.pace.advanced();
         self.hand_in(rt, piece)
     }
@@ -145,7 +149,7 @@ fn build_newest<'s, E, B: BuildBrand + Send + Sync + 's, R: Threads + Wait + Syn
     ensures few { length pool.new.idle.items + length pool.new.handles.items ≤
         length pool.old.idle.items + length pool.old.handles.items }
 {
-    let is_for_worker = owner.give_newest(pool.observer, pool.most_out)?;
+    let (right, is_for_worker) = owner.give_newest(pool.observer, pool.most_out)?;
     if is_for_worker {
         match pool.lead.offer(pool.rt) {
             Offer::Called => return Ok(()),
@@ -157,7 +161,7 @@ fn build_newest<'s, E, B: BuildBrand + Send + Sync + 's, R: Threads + Wait + Syn
             Offer::Full => owner.pace.forget_trial(),
         }
     }
-    owner.advance_claimed(pool.rt, pool.observer)
+    owner.advance_claimed(pool.rt, pool.observer, right)
 }
 
 /// Takes one turn: hands in a piece that has come, builds a ready target further, advances a job that no worker has come
@@ -188,9 +192,9 @@ fn turn<'s, E, B: BuildBrand + Send + Sync + 's, R: Threads + Wait + Sync, O: Ob
         build_newest(owner, pool)?;
         return Ok(true);
     }
-    if pool.lead.claim(pool.rt) {
+    if let Some(claim) = pool.lead.claim(pool.rt) {
         owner.pace.forget_trial();
-        owner.advance_claimed(pool.rt, pool.observer)?;
+        owner.advance_claimed(pool.rt, pool.observer, Right::by_claim(claim))?;
         return Ok(true);
     }
     if owner.board.out() == 0 {

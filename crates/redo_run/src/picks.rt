@@ -6,6 +6,7 @@
 ghost use Rattle.std.specs.Prelude.{◌≡◌, Err, IfOk, IsNone, MatchBool, None, OnOk, Some, length, ℕ};
 ghost use Rattle.redo_rules.specs.Results.{IsRefused, NeedsTooMany};
 ghost use Rattle.redo_core.specs.Faults.{IsSameBuild};
+ghost use Rattle.redo_core.specs.Permits.{IsUnused, IsUsed};
 ghost use Rattle.redo_build.specs.Outcomes.{IsTooMany};
 ghost use Rattle.redo_core.specs.Views.{limit_on, request_on, rules_on};
 ghost use Rattle.redo_run.specs.Picks.{IsDriven, driven_on, picked};
@@ -15,13 +16,13 @@ use crate::RunFault;
 use redo_build::laws::looks_leave_jobs;
 use redo_core::board::{Board, HandFault, Stop};
 use redo_core::laws::what_was_taken;
+use redo_core::permit::Permit;
 use redo_core::work::Work;
 use redo_past::Past;
 use redo_path::Path;
 use redo_rules::laws::books_over_trees_are_lawful;
 use redo_step::Limits;
 use redo_tree::Tree;
-use std::alloc::Global;
 
 /// What happens next on a board, by an index that is counted from 0.
 #[derive(Clone, Copy, Debug, PartialEq, Eq)]
@@ -103,20 +104,22 @@ fn perform(board: &mut Board, out: &mut Vec<Work>, pick: Pick) -> Result<bool, S
 /// nothing is out, at its index. The board keeps targets by itself, without picks. Returns the board, whatever is left
 /// to do on it, and how many picks were done. The works of targets that are still out are lost.
 pub fn drive(
-    alloc: Global,
+    permit: &mut Permit,
     tree: Tree,
     request: &[Path],
     limits: Limits,
     picks: &[Pick],
 ) -> Result<(Board, usize), RunFault>
+    requires permit { IsUnused permit.old }
+    ensures used { OnOk result (IsUsed permit.new) }
     ensures ok { IfOk result (λ driven. IsDriven tree request.now limits picks.now driven.0 driven.1) }
     ensures book { (n : ℕ) → result ≡ Err (RunFault.Book n) → IsRefused tree n }
     ensures too_many { result ≡ Err RunFault.TooMany → NeedsTooMany tree request.now limits }
 {
     what_was_taken();
-    let past = Past::open(alloc, tree)?;
-    let mut board = Board::over(alloc, past, request, limits)?;
-    let mut out = Vec::new(alloc);
+    let past = Past::open(permit.alloc(), tree)?;
+    let mut board = Board::over(permit, past, request, limits)?;
+    let mut out = Vec::new(permit.alloc());
     for (done, pick) in picks.iter().enumerate() {
         if !perform(&mut board, &mut out, *pick)? {
             return Ok((board, done));

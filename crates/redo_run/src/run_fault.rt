@@ -2,9 +2,8 @@
 
 ghost use Rattle.std.specs.Prelude.{◌≡◌};
 
+use redo_book::BookFault;
 use redo_core::board::Stop;
-use redo_core::opening::OpenFault;
-use redo_past::PastFault;
 use std::alloc::{AllocError, AllocFailed};
 use thiserror::Error;
 
@@ -42,30 +41,15 @@ impl<T: Drop> From<AllocFailed<T>> for RunFault {
 }
 
 /// The tree's book is refused.
-impl From<PastFault> for RunFault {
+impl From<BookFault> for RunFault {
     ghost use Rattle.redo_run.specs.RunFaults.{of_past};
 
     ghost from_gives = { λ error fault. fault ≡ of_past error };
 
-    fn from(error: PastFault) -> RunFault {
+    fn from(error: BookFault) -> RunFault {
         match error {
-            PastFault::Book(line) => RunFault::Book(line),
-            PastFault::Memory => RunFault::Memory,
-        }
-    }
-}
-
-/// No build was opened.
-impl From<OpenFault> for RunFault {
-    ghost use Rattle.redo_run.specs.RunFaults.{of_opening};
-
-    ghost from_gives = { λ error fault. fault ≡ of_opening error };
-
-    fn from(error: OpenFault) -> RunFault {
-        match error {
-            OpenFault::Book(line) => RunFault::Book(line),
-            OpenFault::TooMany => RunFault::TooMany,
-            OpenFault::Memory => RunFault::Memory,
+            BookFault::Line(line) => RunFault::Book(line),
+            BookFault::Memory => RunFault::Memory,
         }
     }
 }

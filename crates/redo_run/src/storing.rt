@@ -151,7 +151,7 @@ where
         rt: host.rt,
         most: plan.workers,
     };
-    match store_by_journal(&writers, dir, host.alloc, tree, new) {
+    match store_by_journal(&writers, dir, host.alloc(), tree, new) {
         Ok(()) => Ok(()),
         Err(fault) => {
             cause.note_unstored(&new.files, fault);
@@ -175,6 +175,6 @@ where
     ensures part { IfErr result (IsPart (λ path kind. (d : D) × D.refuses d path kind)
         (steps_left plan.now) (steps_new tree.now plan.now) (D.done dir.old) (D.done dir.new)) }
 {
-    clear_left(dir, host.alloc, plan, cause)?;
+    clear_left(dir, host.alloc(), plan, cause)?;
     store(host, dir, tree, plan, cause)
 }

@@ -8,6 +8,7 @@
 ghost use Rattle.std.specs.Prelude.{◌≡◌, ◌≤◌, Err, [], IfOk, IsNone, IsTrue, ℕ};
 ghost use Rattle.redo_build.specs.Outcomes.{IsTooMany};
 ghost use Rattle.redo_build.specs.Takes.{AreBegun, AreCountedOnce};
+ghost use Rattle.redo_core.specs.Permits.{IsUnused};
 ghost use Rattle.redo_core.specs.Taken.{HasTaken};
 ghost use Rattle.redo_core.specs.Views.{limit_on, request_on, rules_on};
 ghost use Rattle.redo_rules.specs.Results.{IsGiven, IsOfTree, IsRefused, IsResultOn, NeedsTooMany};
@@ -161,7 +162,7 @@ fn run_build<B: BuildBrand + Send + Sync, R: Threads + Wait + Sync, O: Observer>
     requires few { workers ≤ 64 }
     ensures { IsAnswerTo B.tree B.request B.limits result }
 {
-    let (source, mut takers) = relay(host.alloc, workers)?;
+    let (source, mut takers) = relay(host.alloc(), workers)?;
     let Some(taker) = takers.pop() else {
         unreachable!()
     };
@@ -171,14 +172,14 @@ fn run_build<B: BuildBrand + Send + Sync, R: Threads + Wait + Sync, O: Observer>
         taker,
         pace: Pace::new(),
     };
-    let (crew, first) = Crew::new(host.alloc, (workers - 1) as u8)?;
+    let (crew, first) = Crew::new(host.alloc(), (workers - 1) as u8)?;
     let lead = Lead::new(&crew, first);
     let shared = Shared {
         rt: host.rt,
         observer: host.observer,
     };
-    let ended = run_in_scope(shared, lead, host.alloc, owner, takers)?;
-    answer_of(host.rt, host.alloc, ended, workers)
+    let ended = run_in_scope(shared, lead, host.alloc(), owner, takers)?;
+    answer_of(host.rt, host.alloc(), ended, workers)
 }
 
 /// What a run takes over from the last one. At most `threads` threads digest the files that the book has digests of.
@@ -205,12 +206,13 @@ pub(crate) fn past_of<R: Threads + Sync>(
 /// The ledger is of jobs of this build by its type, which names the tree, the request and the limits: each job that it
 /// counts held a work that a board of this build gave.
 pub fn build_many<B: BuildBrand + Send + Sync, R: Threads + Wait + Sync, O: Observer>(
-    host: &Host<'_, R, O>,
+    host: &mut Host<'_, R, O>,
     tree: Tree,
     request: &[Path],
     limits: Limits,
     workers: usize,
 ) -> Result<(Report, Ledger<JobOf<B>>), RunFault>
+    requires permit { IsUnused host.old.permit }
     requires of_build { (B.tree ≡ tree) × (B.request ≡ request.now) × (B.limits ≡ limits) }
     requires some { 1 ≤ workers }
     requires few { workers ≤ 64 }
@@ -223,19 +225,20 @@ pub fn build_many<B: BuildBrand + Send + Sync, R: Threads + Wait + Sync, O: Obse
     ensures too_many { result ≡ Err RunFault.TooMany → NeedsTooMany tree request.now limits }
     ensures only_unsafe { result ≡ Err RunFault.TooMany → IsUnsafeOn tree request.now limits }
 {
-    let past = past_of(host.rt, host.alloc, tree, workers)?;
+    let past = past_of(host.rt, host.alloc(), tree, workers)?;
     let (report, ledger) = build_over::<B, R, O>(host, past, request, limits, workers)?;
-    Ok((report.into_report(host.alloc)?, ledger))
+    Ok((report.into_report(host.alloc())?, ledger))
 }
 
 /// Builds as [`build_many`] does, over what a run before has left. The new book has no text yet.
 fn build_over<B: BuildBrand + Send + Sync, R: Threads + Wait + Sync, O: Observer>(
-    host: &Host<'_, R, O>,
+    host: &mut Host<'_, R, O>,
     past: Past,
     request: &[Path],
     limits: Limits,
     workers: usize,
 ) -> Result<(RunReport, Ledger<JobOf<B>>), RunFault>
+    requires permit { IsUnused host.old.permit }
     requires of_build { (B.tree ≡ past.tree) × (B.request ≡ request.now) × (B.limits ≡ limits) }
     requires some { 1 ≤ workers }
     requires few { workers ≤ 64 }
@@ -244,18 +247,19 @@ fn build_over<B: BuildBrand + Send + Sync, R: Threads + Wait + Sync, O: Observer
     what_was_taken();
     keeping_is_sound();
     past.tree().is_tree();
-    let board = Board::over(host.alloc, past, request, limits)?;
+    let board = Board::over(&mut host.permit, past, request, limits)?;
     Ok(run_build::<B, R, O>(host, board, workers)?)
 }
 
 /// The report of such a build, without its ledger, for a caller that names no build by a type: it passes `Brand`.
 pub(crate) fn report_over<B: BuildBrand + Send + Sync, R: Threads + Wait + Sync, O: Observer>(
-    host: &Host<'_, R, O>,
+    host: &mut Host<'_, R, O>,
     past: Past,
     request: &[Path],
     limits: Limits,
     workers: usize,
 ) -> Result<RunReport, RunFault>
+    requires permit { IsUnused host.old.permit }
     requires of_build { (B.tree ≡ past.tree) × (B.request ≡ request.now) × (B.limits ≡ limits) }
     requires some { 1 ≤ workers }
     requires few { workers ≤ 64 }

@@ -2,8 +2,9 @@
 //! report meets a failure only once all of it is in the buffer, in `tests/failing-calls` too.
 
 ghost use Rattle.std.specs.Prelude.{◌≡◌, None, false};
+ghost use Rattle.redo_core.specs.Permits.{IsUnused};
 
-use crate::trees::{limits_of, paths_of};
+use crate::trees::{host_of, limits_of, paths_of};
 use redo_bundle::{Broken, ByteOut, Plain};
 use redo_run::{Cause, Exit, Host, NoObserver, Options, RunIoFault, run_bundle};
 use std::alloc::Global;
@@ -60,25 +61,21 @@ fn make_sink(alloc: Global, fails_at: usize, takes_nothing: bool) -> Sink
 
 /// Builds `hello`, and returns how the run ends.
 fn run_to<R: Threads + Wait + Sync, W: ByteOut>(
-    rt: &R,
-    alloc: Global,
+    host: &mut Host<'_, R, NoObserver>,
     writer: &mut W,
 ) -> Result<Result<Exit, RunIoFault>, Fail>
-    requires { W.has_failed writer.old ≡ false }
+    requires writer { W.has_failed writer.old ≡ false }
+    requires permit { IsUnused host.old.permit }
 {
+    let alloc = host.alloc();
     let options = Options {
         targets: paths_of(alloc, "hello")?,
         taken: Vec::new(alloc),
         workers: 1,
         limits: limits_of(1)?,
     };
-    let host = Host {
-        rt,
-        alloc,
-        observer: &NoObserver,
-    };
     match run_bundle(
-        &host,
+        host,
         &mut Plain::new(HELLO.as_bytes()),
         writer,
         &options,
@@ -93,7 +90,7 @@ fn run_to<R: Threads + Wait + Sync, W: ByteOut>(
 fn a_writer_may_fail_at_any_call(rt: HostRuntime) -> Result<(), Fail> {
     let alloc = rt.alloc();
     let mut whole = Plain::new(Vec::new(alloc));
-    assert!(rt; run_to(&rt, alloc, &mut whole)? == Ok(Exit::Good));
+    assert!(rt; run_to(&mut host_of(&rt), &mut whole)? == Ok(Exit::Good));
     let Plain {
         stream: report,
         broken: _,
@@ -102,7 +99,7 @@ fn a_writer_may_fail_at_any_call(rt: HostRuntime) -> Result<(), Fail> {
     for call in 0..report.len() {
         for takes_nothing in [false, true] {
             let mut sink = make_sink(alloc, call, takes_nothing);
-            let outcome = run_to(&rt, alloc, &mut sink)?;
+            let outcome = run_to(&mut host_of(&rt), &mut sink)?;
             assert!(rt; outcome == Err(RunIoFault::Device), "call {call}");
             assert!(rt;
                 sink.text.len() == call && report.starts_with(&sink.text),

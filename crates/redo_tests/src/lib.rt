@@ -10,7 +10,7 @@
 //! - `picks`: builds in a given order;
 //! - `observers`: which jobs workers take up, and how many at a time;
 //! - `ends`: a writer that fails at any of its calls;
-//! - `answers`: calls that no run makes;
+//! - `answers`, `surface`: calls that no run makes;
 //! - `memory_dir`: a directory in memory; `work_dirs`: runs over one;
 //! - `memory`: what a call that is refused memory leaves; `tests/refused-memory` refuses it.
 #![tactic(auto)]
@@ -33,6 +33,8 @@ mod picks;
 mod pieces;
 #[cfg(test)]
 mod relay;
+#[cfg(test)]
+mod surface;
 #[cfg(test)]
 mod trees;
 #[cfg(test)]

@@ -3,15 +3,16 @@
 
 use crate::pieces::{answer, counts, first_piece};
 use crate::trees::{
-    DIAMOND, DIAMOND_REPORT, REFUSED_BOOK, RING, RING_REPORT, built_by, limits_of, paths_of,
-    tree_of,
+    DIAMOND, DIAMOND_REPORT, REFUSED_BOOK, RING, RING_REPORT, built_by, host_of, limits_of,
+    paths_of, tree_of,
 };
 use redo_core::board::{Board, HandFault, Stop};
 use redo_core::opening::OpenFault;
+use redo_core::permit::Permit;
 use redo_core::work::{Piece, Work};
 use redo_path::Path;
 use redo_report::{Report, report_text};
-use redo_run::{Host, NoObserver, RunFault, build_one};
+use redo_run::{NoObserver, RunFault, build_one};
 use redo_sync::{Cells, JobTaker, Numbered, Taken, relay};
 use redo_tree::Tree;
 use std::alloc::Global;
@@ -61,7 +62,9 @@ fn one_thread_answers_as_ever_or_is_out_of_memory(rt: HostRuntime) -> Result<(),
     let mut was_refused = false;
     for (rule, bundle, words, expected) in BUILDS {
         let request = paths_of(alloc, words)?;
-        let found = build_one(alloc, tree_of(alloc, bundle)?, &request, limits_of(100)?);
+        let mut permit = Permit::new(&rt, alloc);
+        let tree = tree_of(alloc, bundle)?;
+        let found = build_one(&mut permit, tree, &request, limits_of(100)?);
         assert!(rt;
             is_answer(alloc, found, expected, &mut was_refused)?,
             "{rule}"
@@ -73,17 +76,15 @@ fn one_thread_answers_as_ever_or_is_out_of_memory(rt: HostRuntime) -> Result<(),
 #[test]
 fn four_workers_answer_as_ever_or_are_out_of_memory(rt: HostRuntime) -> Result<(), Fail> {
     let alloc = rt.alloc();
-    let host = Host {
-        rt: &rt,
-        alloc,
-        observer: &NoObserver,
-    };
     let mut was_refused = false;
     for (rule, bundle, words, expected) in BUILDS {
+        let mut host = host_of(&rt);
         let request = paths_of(alloc, words)?;
         let tree = tree_of(alloc, bundle)?;
         let limits = limits_of(100)?;
-        let found = built_by::<Brand, HostRuntime, NoObserver>(&host, tree, &request, limits, 4);
+        let found = built_by::<Brand, HostRuntime, NoObserver>(
+            &mut host, tree, &request, limits, 4,
+        );
         let report = found.map(|(report, _none_left)| report);
         assert!(rt;
             is_answer(alloc, report, expected, &mut was_refused)?,
@@ -97,9 +98,16 @@ fn four_workers_answer_as_ever_or_are_out_of_memory(rt: HostRuntime) -> Result<(
 const TAKES: usize = 7;
 
 /// Opens a board of the diamond over a tree; `None` if memory runs out.
-fn opened(alloc: Global, tree: &Arc<Tree>) -> Result<Option<Board>, Fail> {
+fn opened(rt: &HostRuntime, tree: &Arc<Tree>) -> Result<Option<Board>, Fail> {
+    let alloc = rt.alloc();
+    let mut permit = Permit::new(rt, alloc);
     let request = paths_of(alloc, "top")?;
-    match Board::open(alloc, Arc::try_clone(tree)?, &request, limits_of(100)?) {
+    match Board::open(
+        &mut permit,
+        Arc::try_clone(tree)?,
+        &request,
+        limits_of(100)?,
+    ) {
         Ok(board) => Ok(Some(board)),
         Err(OpenFault::Memory) => Ok(None),
         Err(OpenFault::TooMany) => Err("too many targets")?,
@@ -132,11 +140,11 @@ fn is_refused(board: &mut Board, piece: Piece) -> Result<bool, Fail> {
 }
 
 /// A board that was refused memory has stopped, and says so for good.
-fn stays_stopped(alloc: Global, board: &mut Board) -> Result<(), Fail> {
+fn stays_stopped(rt: &HostRuntime, board: &mut Board) -> Result<(), Fail> {
     if board.stopped() != Some(Stop::Memory) || counts(board) != (0, 0, false) {
         Err("a board goes on without memory")?;
     }
-    let later = first_piece(alloc, 100)?;
+    let later = first_piece(rt, 100)?;
     if !is_refused(board, later)? {
         Err("a stopped board takes in a piece")?;
     }
@@ -144,12 +152,12 @@ fn stays_stopped(alloc: Global, board: &mut Board) -> Result<(), Fail> {
 }
 
 /// Takes a target and hands it in. Returns whether there was memory for it.
-fn go_on(alloc: Global, board: &mut Board) -> Result<bool, Fail> {
+fn go_on(rt: &HostRuntime, board: &mut Board) -> Result<bool, Fail> {
     let Ok(piece) = taken(board)?.advance() else {
         return Ok(false);
     };
     if is_refused(board, piece)? {
-        stays_stopped(alloc, board)?;
+        stays_stopped(rt, board)?;
         return Ok(false);
     }
     Ok(true)
@@ -167,16 +175,16 @@ fn text_of(alloc: Global, board: Board) -> Result<Option<Vec<u8>>, Fail> {
 }
 
 /// Builds the diamond over a tree. Returns the report's text, or `None` if memory ran out on the way.
-fn built(alloc: Global, tree: &Arc<Tree>) -> Result<Option<Vec<u8>>, Fail> {
-    let Some(mut board) = opened(alloc, tree)? else {
+fn built(rt: &HostRuntime, tree: &Arc<Tree>) -> Result<Option<Vec<u8>>, Fail> {
+    let Some(mut board) = opened(rt, tree)? else {
         return Ok(None);
     };
     for _ in 0..TAKES {
-        if !go_on(alloc, &mut board)? {
+        if !go_on(rt, &mut board)? {
             return Ok(None);
         }
     }
-    text_of(alloc, board)
+    text_of(rt.alloc(), board)
 }
 
 /// Whether a text, if there is one, is the diamond's report.
@@ -192,8 +200,8 @@ fn is_report(text: &Option<Vec<u8>>) -> bool {
 fn a_refusal_ends_one_build_alone(rt: HostRuntime) -> Result<(), Fail> {
     let alloc = rt.alloc();
     let tree = Arc::new(alloc, tree_of(alloc, DIAMOND)?)?;
-    let one = built(alloc, &tree)?;
-    let other = built(alloc, &tree)?;
+    let one = built(&rt, &tree)?;
+    let other = built(&rt, &tree)?;
     assert!(rt; one.is_some() || other.is_some());
     assert!(rt; is_report(&one) && is_report(&other));
     Ok(())

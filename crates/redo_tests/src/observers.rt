@@ -3,6 +3,7 @@
 use crate::trees::{DIAMOND, DIAMOND_REPORT, built_by, limits_of, paths_of, tree_of};
 use redo_bundle::Plain;
 use redo_core::board::Board;
+use redo_core::permit::Permit;
 use redo_path::Path;
 use redo_report::report_text;
 use redo_run::{Cause, Exit, Host, Observer, Options, run_bundle};
@@ -72,13 +73,13 @@ fn both_must_be_inside_a_run(rt: HostRuntime) -> Result<(), Fail> {
             workers: 2,
             limits: limits_of(3)?,
         };
-        let host = Host {
+        let mut host = Host {
             rt: &rt,
-            alloc,
+            permit: Permit::new(&rt, alloc),
             observer: &pair,
         };
         let outcome = run_bundle(
-            &host,
+            &mut host,
             &mut Plain::new(two(alloc)?.as_slice()),
             &mut Plain::new(Vec::new(alloc)),
             &options,
@@ -175,13 +176,13 @@ fn each_job_enters_once_and_no_more_are_inside_than_workers(rt: HostRuntime) -> 
         let request = paths_of(alloc, "top")?;
         let tree = tree_of(alloc, DIAMOND)?;
         let limits = limits_of(4)?;
-        let host = Host {
+        let mut host = Host {
             rt: &rt,
-            alloc,
+            permit: Permit::new(&rt, alloc),
             observer: &crowd,
         };
         let (report, none_left) = built_by::<Brand, HostRuntime, Crowd>(
-            &host, tree, &request, limits, workers,
+            &mut host, tree, &request, limits, workers,
         )?;
         let text = report_text(alloc, &report, false)?;
         assert_eq!(rt;

@@ -4,6 +4,7 @@ use crate::trees::{
     DIAMOND, DIAMOND_REPORT, REFUSED_BOOK, RING, RING_REPORT, limits_of, paths_of, tree_of,
 };
 use redo_core::board::Board;
+use redo_core::permit::Permit;
 use redo_report::report_text;
 use redo_run::{Pick, drive};
 use std::alloc::Global;
@@ -42,16 +43,18 @@ fn shown(alloc: Global, board: Board, done: usize) -> Result<Vec<u8>, Fail> {
 
 /// What a build of these words comes to in this order, or why there is none.
 fn came_to(
-    alloc: Global,
+    rt: &HostRuntime,
     bundle: &str,
     words: &str,
     targets: u32,
     order: &str,
 ) -> Result<Vec<u8>, Fail> {
+    let alloc = rt.alloc();
+    let mut permit = Permit::new(rt, alloc);
     let tree = tree_of(alloc, bundle)?;
     let request = paths_of(alloc, words)?;
     let picks = picks_of(alloc, order)?;
-    match drive(alloc, tree, &request, limits_of(targets)?, &picks) {
+    match drive(&mut permit, tree, &request, limits_of(targets)?, &picks) {
         Ok((board, done)) => shown(alloc, board, done),
         Err(fault) => Ok(format!(in alloc; "{fault:?}")?.into_bytes()),
     }
@@ -66,9 +69,8 @@ const ORDERS: [&str; 3] = [
 
 #[test]
 fn every_order_comes_to_the_report(rt: HostRuntime) -> Result<(), Fail> {
-    let alloc = rt.alloc();
     for order in ORDERS {
-        let report = came_to(alloc, DIAMOND, "top", 4, order)?;
+        let report = came_to(&rt, DIAMOND, "top", 4, order)?;
         assert_eq!(rt; report.as_slice(), DIAMOND_REPORT.as_bytes(), "{order}");
     }
     Ok(())
@@ -142,13 +144,12 @@ const ENDS: [(&str, &str, &str, u32, &str, &str); 7] = [
 
 #[test]
 fn an_order_ends_at_the_first_pick_that_is_not_open(rt: HostRuntime) -> Result<(), Fail> {
-    let alloc = rt.alloc();
     for (rule, order, end) in CUT_SHORT {
-        let found = came_to(alloc, DIAMOND, "top", 4, order)?;
+        let found = came_to(&rt, DIAMOND, "top", 4, order)?;
         assert_eq!(rt; found.as_slice(), end.as_bytes(), "{rule}");
     }
     for (rule, bundle, words, targets, order, end) in ENDS {
-        let found = came_to(alloc, bundle, words, targets, order)?;
+        let found = came_to(&rt, bundle, words, targets, order)?;
         assert_eq!(rt; found.as_slice(), end.as_bytes(), "{rule}");
     }
     Ok(())

@@ -2,11 +2,13 @@
 
 ghost use Rattle.std.specs.Prelude.{◌≡◌, ◌≤◌, IfOk};
 ghost use Rattle.redo_bundle.specs.Bundle.{HasSmallFiles};
+ghost use Rattle.redo_core.specs.Permits.{IsUnused};
 
 use redo_bundle::{Plain, read_bundle};
+use redo_core::permit::Permit;
 use redo_path::{Path, resolve};
 use redo_report::Report;
-use redo_run::{BuildBrand, Host, Observer, RunFault, build_many};
+use redo_run::{BuildBrand, Host, NoObserver, Observer, RunFault, build_many};
 use redo_step::Limits;
 use redo_tree::Tree;
 use std::alloc::Global;
@@ -64,15 +66,27 @@ pub(crate) fn limits_of(targets: u32) -> Result<Limits, Fail> {
     Ok(Limits::new(targets, 100).ok_or("limits")?)
 }
 
+/// What a run is lent, with a permit of its own.
+pub(crate) fn host_of(rt: &HostRuntime) -> Host<'_, HostRuntime, NoObserver>
+    ensures { IsUnused result.permit }
+{
+    Host {
+        rt,
+        permit: Permit::new(rt, rt.alloc()),
+        observer: &NoObserver,
+    }
+}
+
 /// A build by so many workers: its report, and whether no job is left. The type names the build in the contract of
 /// `build_many`, and stands in no type that comes back, so a test may pick it.
 pub(crate) fn built_by<B: BuildBrand + Send + Sync, R: Threads + Wait + Sync, O: Observer>(
-    host: &Host<'_, R, O>,
+    host: &mut Host<'_, R, O>,
     tree: Tree,
     request: &[Path],
     limits: Limits,
     workers: usize,
 ) -> Result<(Report, bool), RunFault>
+    requires permit { IsUnused host.old.permit }
     requires of_build { (B.tree ≡ tree) × (B.request ≡ request.now) × (B.limits ≡ limits) }
     requires some { 1 ≤ workers }
     requires few { workers ≤ 64 }

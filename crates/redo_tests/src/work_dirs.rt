@@ -1,7 +1,9 @@
 //! Runs over a directory in memory.
 
+ghost use Rattle.redo_core.specs.Permits.{IsUnused};
+
 use crate::memory_dir::{MemoryDir, Node};
-use crate::trees::{limits_of, paths_of};
+use crate::trees::{host_of, limits_of, paths_of};
 use redo_bundle::Plain;
 use redo_dir::Change;
 use redo_path::{Path, resolve};
@@ -41,26 +43,23 @@ fn small_dir(alloc: Global) -> Result<MemoryDir, Fail> {
 
 /// What a run came to: whether all was made and how many names were passed over, or why it has no report.
 fn ran<H: Threads + Wait + Sync>(
-    rt: &H,
-    alloc: Global,
+    host: &mut Host<'_, H, NoObserver>,
     dir: &mut MemoryDir,
     targets: &str,
     workers: usize,
-) -> Result<Result<(Exit, u64), RunDirFault>, Fail> {
+) -> Result<Result<(Exit, u64), RunDirFault>, Fail>
+    requires { IsUnused host.old.permit }
+{
+    let alloc = host.alloc();
     let options = Options {
         targets: paths_of(alloc, targets)?,
         taken: Vec::new(alloc),
         workers: workers.clamp(1, 64),
         limits: limits_of(9)?,
     };
-    let host = Host {
-        rt,
-        alloc,
-        observer: &NoObserver,
-    };
     let mut writer = Plain::new(Vec::new(alloc));
     let mut cause = Cause::new(alloc);
-    let outcome = run_dir(&host, dir, &mut writer, &options, &mut cause);
+    let outcome = run_dir(host, dir, &mut writer, &options, &mut cause);
     Ok(outcome.map(|run| (run.exit, run.passed)))
 }
 
@@ -88,7 +87,7 @@ fn files_are_stored_in_path_order_behind_the_journal(rt: HostRuntime) -> Result<
     let alloc = rt.alloc();
     for workers in [1, 3] {
         let mut dir = small_dir(alloc)?;
-        let outcome = ran(&rt, alloc, &mut dir, "below/b a", workers)?;
+        let outcome = ran(&mut host_of(&rt), &mut dir, "below/b a", workers)?;
         assert_eq!(rt; outcome, Ok((Exit::Good, 1)));
         assert_eq!(rt; changes(alloc, &dir)?.as_str(), "journal a below/b book ");
     }
@@ -107,7 +106,7 @@ fn what_a_broken_off_run_has_left_is_cleared_away_first(rt: HostRuntime) -> Resu
         let mut dir = small_dir(alloc)?;
         dir.nodes
             .push((path_of(alloc, ".redo-journal")?, file_of(alloc, text)?))?;
-        let outcome = ran(&rt, alloc, &mut dir, "below/b a", 1)?;
+        let outcome = ran(&mut host_of(&rt), &mut dir, "below/b a", 1)?;
         assert_eq!(rt; outcome, Ok((Exit::Good, 1)));
         assert_eq!(rt; changes(alloc, &dir)?.as_str(), expected);
     }
@@ -118,14 +117,14 @@ fn what_a_broken_off_run_has_left_is_cleared_away_first(rt: HostRuntime) -> Resu
 fn each_call_that_fails_is_told(rt: HostRuntime) -> Result<(), Fail> {
     let alloc = rt.alloc();
     let mut whole = small_dir(alloc)?;
-    let _all = ran(&rt, alloc, &mut whole, "below/b a", 1)?;
+    let _all = ran(&mut host_of(&rt), &mut whole, "below/b a", 1)?;
     // Two directories are listed, six names and the places of book and journal looked at; the journal is written, two
     // files are written and named, and the journal becomes the book.
     assert_eq!(rt; whole.calls(), 16);
     for call in 1..17u64 {
         let mut dir = small_dir(alloc)?;
         dir.fails_at = call;
-        let outcome = ran(&rt, alloc, &mut dir, "below/b a", 1)?;
+        let outcome = ran(&mut host_of(&rt), &mut dir, "below/b a", 1)?;
         let (expected, done) = match call {
             1..=10 => (RunDirFault::Load, 0),
             11 => (RunDirFault::Journal, 0),
@@ -145,7 +144,7 @@ fn another_spelling_of_a_name_is_left_as_it_is(rt: HostRuntime) -> Result<(), Fa
     let mut dir = small_dir(alloc)?;
     dir.folds_case = true;
     assert_eq!(rt;
-        ran(&rt, alloc, &mut dir, "a c", 1)?,
+        ran(&mut host_of(&rt), &mut dir, "a c", 1)?,
         Err(RunDirFault::Store(1))
     );
     assert_eq!(rt; changes(alloc, &dir)?.as_str(), "journal a ");

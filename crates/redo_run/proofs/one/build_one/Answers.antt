@@ -1,4 +1,4 @@
-use Rattle.std.proofs.Common.{rules, Err, ap, refl, sym, subst, ◌∙◌}
+use Rattle.std.proofs.Common.{Err, ap, refl, sym, subst, ◌∙◌}
 use Rattle.redo_report.specs.declared.report.Report.{Report}
 use Rattle.redo_rules.specs.Results.{IsResult, NeedsTooMany}
 use Rattle.redo_tree.specs.Tree.{Tree}
@@ -8,11 +8,21 @@ use Rattle.redo_run.proofs.one.build_one.Goals as goal
 pub loop-board-init : goal.loop-board-init
 loop-board-init c = (runs c.in_ok-board.board c.in_ok-board.ensures.ok.is, c.in_ok-board.ensures.none_out, refl)
 
+pub returns-in_err-board-clause-book : goal.returns-in_err-board-clause-book
+returns-in_err-board-clause-book c = λ n is.
+    let made = rw is at c.from_residual-in_err-board.ensures in
+    absurd (never_book c.in_err-board.field-0.0 n made.1)
+
+pub returns-in_err-board-clause-too_many : goal.returns-in_err-board-clause-too_many
+returns-in_err-board-clause-too_many c = λ is.
+    let made = rw is at c.from_residual-in_err-board.ensures in
+    let stop = stopped_at_limit c.in_err-board.field-0.0 made.1 in
+    let P : Tree → Type 0 = λ t. NeedsTooMany t c.args.request.now c.args.limits in
+    subst P c.in_ok-past.ensures.tree (c.over.ensures.too_many (c.in_err-board.was ∙ ap Err stop))
+
 pub returns-in_err-board-clause-only_unsafe : goal.returns-in_err-board-clause-only_unsafe
 returns-in_err-board-clause-only_unsafe c = λ is.
-    let many : NeedsTooMany c.in_ok-past.past.tree c.args.request.now c.args.limits = search rules in
-    let P : Tree → Type 0 = λ t. NeedsTooMany t c.args.request.now c.args.limits in
-    c.keeping_is_sound.ensures.within c.args.tree c.args.request.now c.args.limits (subst P c.in_ok-past.ensures.tree many)
+    c.keeping_is_sound.ensures.within c.args.tree c.args.request.now c.args.limits (returns-in_err-board-clause-too_many c is)
 
 pub returns-in_err-advance_newest-clause-book : goal.returns-in_err-advance_newest-clause-book
 returns-in_err-advance_newest-clause-book c = λ n is.

@@ -47,7 +47,7 @@ returns-clause-kept_up g c =
       | else-is_for_worker w ↦ w.owner-is
     ] in
     let first : HasKeptUp c.args.owner.now c.if-is_for_worker.owner =
-    subst (HasKeptUp c.args.owner.now) (sym same) c.in_ok-is_for_worker.ensures.kept_up in
+    subst (HasKeptUp c.args.owner.now) (sym same) c.in_ok-right.ensures.kept_up in
     on_ok_weaker c.advance_claimed.result (λ kept. (kept.0, λ had. kept.1 (first.1 had))) c.advance_claimed.ensures.kept_up
 
 pub returns-clause-too_many : goal.returns-clause-too_many

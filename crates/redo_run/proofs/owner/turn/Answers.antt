@@ -4,8 +4,8 @@ use Rattle.redo_run.specs.inside.Workers.{OwnerView, HasKeptUp, NeedsMany}
 use Rattle.redo_run.proofs.owner.turn.Goals as goal
 
 -- a job that no worker has come to is advanced
-pub returns-then-claim-clause-kept_up : goal.returns-then-claim-clause-kept_up
-returns-then-claim-clause-kept_up g c =
+pub returns-in-Some-clause-kept_up : goal.returns-in-Some-clause-kept_up
+returns-in-Some-clause-kept_up g c =
     let P : OwnerView → Type 0 = λ d. HasKeptUp d c.advance_claimed.new.self in
     subst P c.owner-2.view_is c.in_ok-advance_claimed.ensures.kept_up
 

@@ -1,5 +1,7 @@
 use Rattle.std.proofs.Common.{rules, ◌≡◌, ℕ, [], Err, List, length, refl, ap, subst, ◌∙◌}
 use Rattle.redo_core.specs.Views.{WorkView}
+use Rattle.redo_rules.specs.Results.{NeedsTooMany}
+use Rattle.redo_tree.specs.Tree.{Tree}
 use Rattle.redo_run.specs.Picks.{IsDrivenOver, driven_on}
 use Rattle.redo_run.proofs.DrivingLemmas.{begins, ends, goes-on, stops}
 use Rattle.redo_run.proofs.OpenedLemmas.{given_to, never_book, runs, stopped_at_limit, too_many_of}
@@ -32,6 +34,18 @@ loop-done-preserved c =
           goes-on first.given c.args.picks.now (driven_on first []) c.loop-done.board c.loop-done.out.items c.loop-done.done c.loop-done.invariant.build c.loop-done.invariant.leads
           c.perform.new.board c.perform.new.out.items _ (search rules) (search rules) c.in_ok-perform.field-0 c.in_ok-perform.ensures.picked (search rules);
     }
+
+pub returns-in_err-board-clause-book : goal.returns-in_err-board-clause-book
+returns-in_err-board-clause-book c = λ n is.
+    let made = rw is at c.from_residual-in_err-board.ensures in
+    absurd (never_book c.in_err-board.field-0.0 n made.1)
+
+pub returns-in_err-board-clause-too_many : goal.returns-in_err-board-clause-too_many
+returns-in_err-board-clause-too_many c = λ is.
+    let made = rw is at c.from_residual-in_err-board.ensures in
+    let stop = stopped_at_limit c.in_err-board.field-0.0 made.1 in
+    let P : Tree → Type 0 = λ t. NeedsTooMany t c.args.request.now c.args.limits in
+    subst P c.in_ok-past.ensures.tree (c.over.ensures.too_many (c.in_err-board.was ∙ ap Err stop))
 
 pub returns-in_err-perform-clause-book : goal.returns-in_err-perform-clause-book
 returns-in_err-perform-clause-book c = λ n is.

@@ -4,6 +4,10 @@ use Rattle.redo_run.specs.Skipping.{IsSoundOn}
 use Rattle.redo_tree.specs.Tree.{Tree}
 use Rattle.redo_run.proofs.workers.build_many.Goals as goal
 
+-- a build that comes to a report refuses no book
+pub returns-clause-book : goal.returns-clause-book
+returns-clause-book g c = λ n is. absurd cc
+
 -- the tree of the past is the one that was given, and the report with the book's text is the run's
 pub returns-clause-sound : goal.returns-clause-sound
 returns-clause-sound g c =

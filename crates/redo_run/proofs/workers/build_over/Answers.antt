@@ -21,20 +21,24 @@ pub run_build-requires-clause-opened : goal.run_build-requires-clause-opened
 run_build-requires-clause-opened g c κs within =
     let board = c.in_ok-board.board in c.what_was_taken.ensures.opened board.given board c.in_ok-board.ensures.ok.is
 
--- no board is opened: the book isn't refused, as the past has it already
+-- no board is opened: too many targets are needed, or memory runs out
 pub returns-in_err-board : goal.returns-in_err-board
-returns-in_err-board g c = record {
-  report = search rules;
-  sound = search rules;
-  none_left = search rules;
-  once = search rules;
-  begun = search rules;
-  book = search rules;
-  too_many = search rules;
-  only_unsafe = λ is.
-      let many : NeedsTooMany c.args.past.tree c.args.request.now c.args.limits = search rules in
-      c.keeping_is_sound.ensures.within c.args.past.tree c.args.request.now c.args.limits many;
-}
+returns-in_err-board g c =
+    let tree = c.args.past.tree in let request = c.args.request.now in let limits = c.args.limits in
+    let many : Err faults.TooMany ≡ c.from_residual.result → NeedsTooMany tree request limits = λ is.
+    let made = rw (sym is) at c.from_residual.ensures in
+    let stop = stopped_at_limit c.in_err-board.field-0.0 made.1 in
+    c.over.ensures.too_many (c.in_err-board.was ∙ ap Err stop) in
+    record {
+      report = search rules;
+      sound = search rules;
+      none_left = search rules;
+      once = search rules;
+      begun = search rules;
+      book = search rules;
+      too_many = λ is. many (sym is);
+      only_unsafe = λ is. c.keeping_is_sound.ensures.within tree request limits (many (sym is));
+    }
 
 -- the build stops at too many targets, or for want of memory
 pub returns-in_err-run_build : goal.returns-in_err-run_build

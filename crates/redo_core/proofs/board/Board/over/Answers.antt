@@ -1,16 +1,16 @@
-use Rattle.std.proofs.Common.{◌≡◌, ◌≤◌, ℕ, Err, None, length, refl, ap, subst, ◌∙◌}
+use Rattle.std.proofs.Common.{◌≡◌, ◌≤◌, ℕ, Err, None, length, refl, sym, ap, subst, ◌∙◌}
 use Rattle.redo_rules.specs.Build.{GivenView}
 use Rattle.redo_rules.specs.Results.{IsGiven}
 use Rattle.redo_core.specs.inside.Slots.{IsKept, state_of}
 use Rattle.redo_core.specs.declared.board.Board.TheInside.{Inside}
-use Rattle.redo_core.proofs.GivenLemmas.{given-of, no-book, at-limit}
+use Rattle.redo_core.proofs.GivenLemmas.{given-of}
 use Rattle.redo_core.proofs.TakeLemmas.{part-inside, length-entries}
 use Rattle.redo_core.proofs.OpeningLemmas.{opened-kept, opened-left, opened-looked, opened-out, opening-many}
 use Rattle.redo_core.proofs.board.Board.over.Goals as goal
 use Rattle.redo_core.proofs.board.Board.over.Goals.{In_ok-look_ahead, In_ok-build}
 
 opened-board : (c : In_ok-look_ahead) → Inside
-opened-board c = record { alloc = c.args.alloc; build = c.in_ok-build.build; table = c.look_ahead.new.self; stopped = None }
+opened-board c = record { alloc = c.alloc-alloc.result; build = c.in_ok-build.build; table = c.look_ahead.new.self; stopped = None }
 
 kept : (c : In_ok-look_ahead) → IsKept (opened-board c)
 unfolding opened-board
@@ -30,21 +30,14 @@ pub returns-in_err-table-clause-too_many : goal.returns-in_err-table-clause-too_
 returns-in_err-table-clause-too_many c = λ is.
     let d = (goal.at-returns-in_err-table-clause-too_many c).In_ok-build in
     let made = rw is at c.from_residual-in_err-table.ensures in
-    let stop = at-limit c.in_err-table.field-0.0 made.1 in
-    let many = c.open.ensures.too_many (c.in_err-table.was ∙ ap Err stop) in
+    let many = c.open.ensures.too_many (c.in_err-table.was ∙ ap Err (sym made.1)) in
     (c.in_ok-build.build, given d, opening-many c.in_ok-build.build c.in_ok-build.build.request many)
-
-pub returns-in_err-look_ahead-clause-book : goal.returns-in_err-look_ahead-clause-book
-returns-in_err-look_ahead-clause-book c = λ n is.
-    let made = rw is at c.from_residual-in_err-look_ahead.ensures in
-    absurd (no-book c.in_err-look_ahead.field-0.0 n made.1)
 
 pub returns-in_err-look_ahead-clause-too_many : goal.returns-in_err-look_ahead-clause-too_many
 returns-in_err-look_ahead-clause-too_many c = λ is.
     let d = (goal.at-returns-in_err-look_ahead-clause-too_many c).In_ok-build in
     let made = rw is at c.from_residual-in_err-look_ahead.ensures in
-    let stop = at-limit c.in_err-look_ahead.field-0.0 made.1 in
-    let many = c.look_ahead.ensures.too_many (c.in_err-look_ahead.was ∙ ap Err stop) in
+    let many = c.look_ahead.ensures.too_many (c.in_err-look_ahead.was ∙ ap Err (sym made.1)) in
     (c.in_ok-build.build, given d, many)
 
 pub returns-clause-within : goal.returns-clause-within

@@ -1,6 +1,5 @@
-use Rattle.std.proofs.Common.{◌≡◌, ◌∙◌, ◌-◌, ◌<◌, ◌++◌, ◌∷◌, [], Bool, List, Result, ap, arith, sym, subst}
-use Rattle.std.specs.Prelude.{IsNone, OnOk}
-use Rattle.std.specs.declared.alloc.AllocError.{AllocError}
+use Rattle.std.proofs.Common.{◌≡◌, ◌∙◌, ◌-◌, ◌<◌, ◌++◌, ◌∷◌, [], List, ap, arith, sym, subst}
+use Rattle.std.specs.Prelude.{IsNone}
 use Rattle.redo_build.specs.Schedule.Event.{Take}
 use Rattle.redo_core.specs.Taken.{HasTaken}
 use Rattle.redo_core.specs.Views.{BoardView, WorkView, after, ready_count}
@@ -11,7 +10,6 @@ use Rattle.redo_run.specs.inside.Workers.{OwnerView, HasKeptUp}
 use Rattle.redo_run.proofs.OpenedLemmas.{one_given}
 use Rattle.redo_run.proofs.owner.Owner.give_newest.Goals as goal
 use Rattle.redo_run.proofs.owner.Owner.give_newest.Goals.{then-may_offer, else-may_offer}
-use Rattle.redo_run.proofs.owner.Owner.give_newest.Goals.{in-Ok, in-Err+in-Unread-1, in-Err+in-Begun-1}
 
 -- the work is of the build that the type names
 pub new-requires : goal.new-requires
@@ -25,11 +23,10 @@ new-requires g c = λ other is.
 pub returns-clause-kept_up : goal.returns-clause-kept_up
 returns-clause-kept_up g c =
     let b = c.self.inside.board in let given = c.self.inside.source.given in let work = c.in_ok-work.work in
-    let old : OwnerView = record { board = b; source = c.self.inside.source; own = c.self.inside.taker.relay } in
     let new : OwnerView =
     record {
       board = c.if-may_offer.self-inside.board;
-      source = c.give.new.self;
+      source = c.by_giving.new.source;
       own = c.if-may_offer.self-inside.taker.relay;
     } in
     let boards : c.if-may_offer.self-inside.board ≡ c.take.new.self = elim c.if-may_offer.branch [
@@ -48,19 +45,13 @@ returns-clause-kept_up g c =
     let there : c.ready.result - 1 < ready_count b = omega (arith, c.ready.ensures, ready) in
     let pairs : WorkView → List Pair = λ w. given ++ (w.target, w.turn) ∷ [] in
     let behind : Source → List Pair = λ s. s.given ++ (c.new.result.work.target, c.new.result.work.turn) ∷ [] in
-    let P : OwnerView → Type 0 = λ d. OnOk c.match-give.result (HasKeptUp d new) in
-    let Q : Result Bool AllocError → Type 0 = λ r. OnOk r (HasKeptUp old new) in
+    let P : OwnerView → Type 0 = λ d. HasKeptUp d new in
     let S : BoardView → Type 0 = λ v. IsNone v.stopped in
     let V : BoardView → Type 0 = λ v. HasTaken v (pairs work) in
     let L : List Pair → Type 0 = λ l. HasTaken c.if-may_offer.self-inside.board l in
-    subst P c.self.view_is (elim c.match-give.branch [
-      | in-Ok w ↦
-          subst Q (sym w.result-is) (
-            subst S (sym next) runs,
-            λ had.
-                let took = c.what_was_taken.ensures.take b given (c.ready.result - 1) work had there c.in_ok-work.ensures.work in
-                subst L (sym (w.in-Ok.ensures.given ∙ ap behind sources ∙ ap pairs c.new.ensures)) (subst V (sym next) took),
-          )
-      | in-Err+in-Unread-1 w ↦ subst Q (sym w.result-is) tt
-      | in-Err+in-Begun-1 w ↦ subst Q (sym w.result-is) tt
-    ])
+    subst P c.self.view_is (
+      subst S (sym next) runs,
+      λ had.
+          let took = c.what_was_taken.ensures.take b given (c.ready.result - 1) work had there c.in_ok-work.ensures.work in
+          subst L (sym (c.in_ok-right.ensures.given ∙ ap behind sources ∙ ap pairs c.new.ensures)) (subst V (sym next) took),
+    )
