@@ -47,7 +47,8 @@ class Coming:
 
 
 def in_lanes(coming, number, memory):
-    """Runs tasks as they come, so many at a time, and those that come of them."""
+    """Runs tasks as they come, so many at a time, and those that come of them. Half of the memory is left to the proofs
+    while these run."""
     left, running = [], {}
     pool = ThreadPoolExecutor(number)
     try:
@@ -55,7 +56,7 @@ def in_lanes(coming, number, memory):
             left += coming.take(not left and not running)
             left.sort(key=lambda it: -it.lines)
             for task in [*left]:
-                room = memory - sum(it.memory for it in running.values())
+                room = (memory // 2 if coming.is_open else memory) - sum(it.memory for it in running.values())
                 if len(running) < number and (not running or task.memory <= room):
                     left.remove(task)
                     running[pool.submit(task.call)] = task
