@@ -1,10 +1,11 @@
-//! Making the digests of named files and keeping them.
+//! Making digests of contents, four at a time, and keeping them; those of a tree's files.
 
-ghost use Rattle.std.specs.Prelude.{◌≡◌, ◌<◌, ℕ, List, Some, drop, length, slice_get, slice_index_or};
+ghost use Rattle.std.specs.Prelude.{◌≡◌, ◌<◌, ℕ, List, Option, Some, drop, length, option_copied, slice_get};
+ghost use Rattle.std.specs.Prelude.{slice_index_or};
 ghost use Rattle.sha2.specs.Sha256.{sha256};
-ghost use Rattle.redo_tree.specs.declared.entries.Entry.TheVariants.{File};
+ghost use Rattle.redo_tree.specs.Tree.{node_of, bytes_of as file_bytes};
 
-use crate::Entry;
+use crate::{Content, Entry};
 use redo_digest::{Digest, Fours, Next};
 use std::thread;
 use std::thread::Threads;
@@ -31,97 +32,132 @@ pub(crate) fn keep_digest(entry: &mut Entry)
     }
 }
 
-/// The bytes of the entry with this number; none if it is no file.
-fn bytes_at(entries: &[Entry], number: usize) -> &[u8]
-    ensures { (content : List ℕ) → slice_get entries.now number ≡ Some (File content) → result.now ≡ content }
-{
-    match entries.get(number) {
-        Some(Entry::File(content)) => content.bytes(),
-        _ => b"",
+/// Which values of a type may have a content. A marker stands for the type, so that another crate can say it of a type
+/// that it only uses.
+pub trait Contents {
+    type Of;
+
+    /// The bytes of a value's content, if it has one.
+    ghost bytes_in: { Self.Of → Option (List ℕ) };
+
+    /// The content of a value, if it has one.
+    fn content(value: &Self::Of) -> Option<&Content>
+        ensures { option_copied result ≡ bytes_in value.now };
+
+    /// Keeps a digest that was made of a value's content.
+    fn put_digest(value: &mut Self::Of, digest: Digest)
+        requires { (content : List ℕ) → bytes_in value.old ≡ Some content → digest ≡ sha256 content }
+        ensures { value.new ≡ value.old };
+}
+
+/// Entries that are files have one.
+pub(crate) struct Files;
+
+impl Contents for Files {
+    type Of = Entry;
+
+    ghost bytes_in = { λ entry. file_bytes (node_of entry) };
+
+    fn content(value: &Entry) -> Option<&Content> {
+        match value {
+            Entry::Directory => None,
+            Entry::File(content) => Some(content),
+        }
+    }
+
+    fn put_digest(value: &mut Entry, digest: Digest) {
+        match value {
+            Entry::Directory => {}
+            Entry::File(content) => content.put_digest(digest),
+        }
     }
 }
 
-/// Keeps a digest that was made of a file.
-fn put_digest(entry: &mut Entry, digest: Digest)
-    requires { (content : List ℕ) → entry.old ≡ File content → digest ≡ sha256 content }
-    ensures { entry.new ≡ entry.old }
+/// The bytes of the content of the value with this number; none if it has no content.
+fn bytes_at<C: Contents>(values: &[C::Of], number: usize) -> &[u8]
+    ensures { (value : C.Of) (content : List ℕ) → slice_get values.now number ≡ Some value →
+        C.bytes_in value ≡ Some content → result.now ≡ content }
 {
-    match entry {
-        Entry::Directory => {}
-        Entry::File(content) => content.put_digest(digest),
+    let Some(value) = values.get(number) else {
+        return b"";
+    };
+    match C::content(value) {
+        Some(content) => content.bytes(),
+        None => b"",
     }
 }
 
-/// Keeps the digest of the entry with this number, if that is a file.
-fn put(entries: &mut [Entry], number: usize, digest: Digest)
-    requires { (content : List ℕ) → slice_get entries.old number ≡ Some (File content) → digest ≡ sha256 content }
-    ensures { entries.new ≡ entries.old }
+/// Keeps the digest of the value with this number, if it has a content.
+fn put<C: Contents>(values: &mut [C::Of], number: usize, digest: Digest)
+    requires { (value : C.Of) (content : List ℕ) → slice_get values.old number ≡ Some value →
+        C.bytes_in value ≡ Some content → digest ≡ sha256 content }
+    ensures { values.new ≡ values.old }
 {
-    if number < entries.len() {
-        put_digest(&mut entries[number], digest);
+    if number < values.len() {
+        C::put_digest(&mut values[number], digest);
     }
 }
 
-/// Makes the digests of the entries with these numbers and keeps them.
-fn keep_four(entries: &mut [Entry], numbers: [usize; 4])
-    ensures { entries.new ≡ entries.old }
+/// Makes the digests of the contents of the values with these numbers and keeps them.
+fn keep_four<C: Contents>(values: &mut [C::Of], numbers: [usize; 4])
+    ensures { values.new ≡ values.old }
 {
     let [a, b, c, d] = numbers;
     let [first, second, third, fourth] = Digest::of_four(
-        bytes_at(entries, a),
-        bytes_at(entries, b),
-        bytes_at(entries, c),
-        bytes_at(entries, d),
+        bytes_at::<C>(values, a),
+        bytes_at::<C>(values, b),
+        bytes_at::<C>(values, c),
+        bytes_at::<C>(values, d),
     );
-    put(entries, a, first);
-    put(entries, b, second);
-    put(entries, c, third);
-    put(entries, d, fourth);
+    put::<C>(values, a, first);
+    put::<C>(values, b, second);
+    put::<C>(values, c, third);
+    put::<C>(values, d, fourth);
 }
 
 /// The same, if there are four to be digested now.
-fn keep_next(entries: &mut [Entry], next: Next)
-    ensures { entries.new ≡ entries.old }
+fn keep_next<C: Contents>(values: &mut [C::Of], next: Next)
+    ensures { values.new ≡ values.old }
 {
     match next {
-        Next::Four(numbers) => keep_four(entries, numbers),
+        Next::Four(numbers) => keep_four::<C>(values, numbers),
         Next::Alone | Next::Waits => {}
     }
 }
 
-/// What is to be digested after an entry, which has no digest yet if it is a file.
-pub(crate) fn next_after(fours: &mut Fours, entry: &Entry, number: usize) -> Next {
-    match entry {
-        Entry::File(content) if !content.has_digest() => {
-            fours.add(number, content.bytes().len())
-        }
+/// What is to be digested after a value, whose content may have a digest.
+pub(crate) fn next_after<C: Contents>(fours: &mut Fours, value: &C::Of, number: usize) -> Next {
+    match C::content(value) {
+        Some(content) if !content.has_digest() => fours.add(number, content.bytes().len()),
         _ => Next::Waits,
     }
 }
 
-/// Makes the digests of named files, four of about one length at a time, and keeps them. Some long files are left.
-fn keep_fours(entries: &mut [Entry], named: &[bool])
-    ensures { entries.new ≡ entries.old }
+/// Makes the digests of the contents of named values, those with the numbers of which `is_named` says so, four of about
+/// one length at a time, and keeps them. Some long contents are left.
+pub fn keep_fours<C: Contents, F: Fn(usize) -> bool>(values: &mut [C::Of], is_named: F)
+    requires { F.IsAlwaysCallable is_named }
+    ensures { values.new ≡ values.old }
 {
     let mut fours = Fours::new();
-    'entries: for number in 0..entries.len() {
-        if is_named(named, number) {
-            let next = next_after(&mut fours, &entries[number], number);
-            keep_next(entries, next);
+    'values: for number in 0..values.len() {
+        if is_named(number) {
+            let next = next_after::<C>(&mut fours, &values[number], number);
+            keep_next::<C>(values, next);
         }
     }
     let [one, two, three, four] = fours.rest();
-    keep_next(entries, one);
-    keep_next(entries, two);
-    keep_next(entries, three);
-    keep_next(entries, four);
+    keep_next::<C>(values, one);
+    keep_next::<C>(values, two);
+    keep_next::<C>(values, three);
+    keep_next::<C>(values, four);
 }
 
 /// Makes the digests of the named files and keeps them.
 pub(crate) fn keep_digests(entries: &mut [Entry], named: &[bool])
     ensures { entries.new ≡ entries.old }
 {
-    keep_fours(entries, named);
+    keep_fours::<Files, _>(entries, |number| is_named(named, number));
     'entries: for number in 0..entries.len() {
         if is_named(named, number) {
             keep_digest(&mut entries[number]);

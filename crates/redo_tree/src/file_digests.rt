@@ -8,7 +8,7 @@ ghost use Rattle.redo_tree.specs.declared.entries.Entry.TheVariants.{File};
 ghost use Rattle.redo_tree.specs.inside.Digests.{AreMade, FindsNodes};
 
 use crate::Entry;
-use crate::digests::{is_named, next_after};
+use crate::digests::{Files, is_named, next_after};
 use redo_digest::laws::a_content_has_a_digest;
 use redo_digest::{Digest, Fours, Next};
 use redo_names::PathMap;
@@ -144,7 +144,7 @@ fn make_fours(entries: &PathMap<Entry>, made: &mut [Option<Digest>], named: &[bo
     let mut fours = Fours::new();
     'entries: for number in 0..entries.len() {
         if is_named(named, number) {
-            let next = next_after(&mut fours, entries.at(number).1, number);
+            let next = next_after::<Files>(&mut fours, entries.at(number).1, number);
             make_next(entries, made, next);
         }
     }

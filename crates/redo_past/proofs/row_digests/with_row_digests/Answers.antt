@@ -4,5 +4,5 @@ use Rattle.redo_past.proofs.row_digests.with_row_digests.Goals as goal
 
 pub returns : goal.returns
 returns c =
-    let same = c.keep_short_digests.ensures ∙ c.deref_mut.ensures.value in
-    record { rows = with_items_is c.args.report.rows c.keep_short_digests.new.rows (search (rules, places)) ∙ same; files = refl; begun = refl }
+    let same = c.keep_fours.ensures ∙ c.deref_mut.ensures.value in
+    record { rows = with_items_is c.args.report.rows c.keep_fours.new.values (search (rules, places)) ∙ same; files = refl; begun = refl }
