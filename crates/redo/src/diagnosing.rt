@@ -112,6 +112,11 @@ fn stand_of(build: &BuildOptions) -> Stand<'_> {
     }
 }
 
+/// Whether there is something wrong with a target.
+fn has_faults(report: &Report) -> bool {
+    report.rows.iter().any(|row| matches!(row.outcome, Outcome::Failed(_) | Outcome::Cyclic))
+}
+
 /// Shows what is wrong with the first failed targets, and the first cycles.
 pub(crate) fn say_diagnoses<H: Runtime>(
     rt: &H,
@@ -120,6 +125,9 @@ pub(crate) fn say_diagnoses<H: Runtime>(
     past: &Past,
     report: &Report,
 ) -> Result<(), AllocError> {
+    if !has_faults(report) {
+        return Ok(());
+    }
     let build = after.build;
     let diagnosed = find_diagnoses(rt, alloc, build, past, report)?;
     let text = text_of(alloc, &stand_of(build), &diagnosed, MOST)?;

@@ -19,16 +19,14 @@ use redo_path::Path;
 use redo_record::Outcome;
 use redo_report::{Report, Row};
 use redo_tree::{Entry, Tree};
-use redo_which::Search;
-use redo_which::lookup::search;
+use redo_which::lookup::{chosen, has_rule};
 use std::alloc::{AllocError, Global};
 
 /// The .do file that the search for a path's rule chooses.
 fn do_file_of(alloc: Global, sources: &Tree, path: &Path) -> Result<Option<Path>, AllocError>
     ensures { IfOk result (λ file. file ≡ file_of_rule sources.now path.now) }
 {
-    let Search { missing: _, chosen } = search(alloc, sources, path)?;
-    match chosen {
+    match chosen(alloc, sources, path)? {
         Some(candidate) => Ok(Some(candidate.do_file)),
         None => Ok(None),
     }
@@ -108,10 +106,10 @@ fn shadowed_at(
     if !matches!(entry, Entry::File(_)) {
         return Ok(None);
     }
-    match do_file_of(alloc, sources, path)? {
-        Some(_) => Ok(Some(path.clone()?)),
-        None => Ok(None),
+    if !has_rule(alloc, sources, path)? {
+        return Ok(None);
     }
+    Ok(Some(path.clone()?))
 }
 
 /// Adds a path, if there is one.
@@ -187,7 +185,7 @@ fn is_ruleless(alloc: Global, past: &Past, made: &BookRecord) -> Result<bool, Al
     if !is_generated(past.tree(), made) {
         return Ok(false);
     }
-    Ok(do_file_of(alloc, past.sources(), &made.target)?.is_none())
+    Ok(!has_rule(alloc, past.sources(), &made.target)?)
 }
 
 /// The targets of the book whose generated file stays and that no rule makes, in path order.

@@ -2,7 +2,7 @@ use Rattle.std.proofs.Common.{arith, ◌≡◌, ◌∙◌, ◌+◌, false, sym, 
 use Rattle.redo_which.specs.inside.Passed.{Passes}
 use Rattle.redo_which.specs.Rule.{is_file}
 use Rattle.redo_which.proofs.PassedLemmas.{passes-chosen, passes-few, passes-first, passes-missing, passes-more}
-use Rattle.redo_which.proofs.lookup.first_file.Goals as goal
+use Rattle.redo_which.proofs.lookup.first_ref.Goals as goal
 
 pub loop-candidate-preserved : goal.loop-candidate-preserved
 loop-candidate-preserved c =

@@ -1,6 +1,6 @@
 use Rattle.std.proofs.Common.{◌≡◌, ◌≤◌, ◌+◌, ◌^◌, length}
 use Rattle.redo_which.specs.Rule.{chosen_among, chosen_of, missing_among, missing_of}
-use Rattle.redo_which.proofs.lookup.first_file.Given as goal
+use Rattle.redo_which.proofs.lookup.first_ref.Given as goal
 
 -- none so far was a file, and they are few
 abbrev pub invariant-loop-candidate : goal.invariant-loop-candidate
