@@ -1,3 +1,4 @@
+pub mod CallLemmas
 pub mod ClearLemmas
 pub mod EntryNameLemmas
 pub mod FailLemmas
@@ -8,3 +9,4 @@ pub mod ListingLemmas
 pub mod OwnLemmas
 pub mod ReadingLemmas
 pub mod TextLemmas
+pub mod WaitLemmas

@@ -1,3 +1,4 @@
+pub mod Called
 pub mod Loaded
 pub mod Own
 pub mod Stored

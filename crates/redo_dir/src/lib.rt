@@ -12,7 +12,9 @@
 //! - `faults`: why a directory was not read, or a file not stored; `unwritten`: why one file was not.
 #![tactic(auto)]
 
+mod access;
 mod batches;
+mod calls;
 mod changes;
 mod clearing;
 mod drafts;
@@ -21,14 +23,18 @@ mod journal;
 mod loading;
 mod lock;
 mod looking;
+mod new_files;
 mod own;
 mod places;
 mod reading;
 mod storing;
 mod system;
+mod system_calls;
 mod unwritten;
+mod waiting;
 mod work_dir;
 
+pub use calls::{Calls, ClosedFile, NewFile};
 pub use changes::Change;
 pub use clearing::{Left, clear};
 pub use faults::{JournalFault, LoadFault, StoreFault};
@@ -38,4 +44,5 @@ pub use lock::{DirLock, LockFault, Lockable, lock_dir};
 pub use own::{Tag, journal_path};
 pub use storing::{Writers, store_files};
 pub use system::{SystemDir, SystemDraft};
+pub use system_calls::{SystemCalls, SystemClosed, SystemNew};
 pub use work_dir::{Drafted, Seen, WorkDir};

@@ -1,11 +1,18 @@
 //! The bytes of a file of the system.
 
-ghost use Rattle.std.specs.Prelude.{◌≡◌, ◌<◌, ◌≤◌, IfOk, IfSome, length, take};
+ghost use Rattle.std.specs.Prelude.{◌≡◌, ◌<◌, ◌≤◌, IfOk, IfSome, List, Ok, Option, length, take, ℕ};
 ghost use Rattle.std.specs.Io.KnownBytes.{Consumes};
+ghost use Rattle.std.specs.Path.{path_buf_bytes};
+ghost use Rattle.redo_dir.specs.Called.{LeadsTo, front_read};
+ghost use Rattle.redo_dir.specs.Loaded.{node_seen};
 
+use crate::calls::Calls;
+use crate::work_dir::Seen;
 use std::alloc::Global;
+use std::fs::Metadata;
 use std::io;
 use std::io::{ErrorKind, Read};
+use std::path::PathBuf;
 
 /// Up to so many bytes are read by one call, into room that has just their size. It is filled with zeros first, which
 /// costs less than a second call for so few.
@@ -57,4 +64,32 @@ pub(crate) fn read_bytes<F: Read + Drop>(
         file.take(size as u64).read_to_end(&mut bytes)?;
     }
     Ok(bytes)
+}
+
+/// The bytes of the file at a place, which had `size` of them when it was looked at. What it has grown by since isn't read.
+fn read_file<C: Calls>(calls: &C, alloc: Global, place: &PathBuf, size: u64) -> io::Result<Vec<u8>>
+    ensures { IfOk result (λ bytes. (holds : Option (List ℕ)) × C.opens calls.now (path_buf_bytes place.now) holds ×
+        IfSome holds (λ all. bytes.items ≡ front_read size all)) }
+{
+    read_bytes(alloc, calls.open(place)?, size as usize)
+}
+
+/// What a place leads to, of which the system says this.
+pub(crate) fn read_seen<C: Calls>(
+    calls: &C,
+    alloc: Global,
+    place: &PathBuf,
+    about: &Metadata,
+) -> io::Result<Seen>
+    requires { C.stands calls.now (path_buf_bytes place.now) (Ok about.now) }
+    ensures { IfOk result (λ seen. LeadsTo (C.stands calls.now) (C.opens calls.now) (path_buf_bytes place.now) (node_seen seen)) }
+{
+    if about.is_dir() {
+        return Ok(Seen::Directory);
+    }
+    if about.is_file() {
+        let bytes = read_file(calls, alloc, place, about.len())?;
+        return Ok(Seen::File(bytes));
+    }
+    Ok(Seen::Other)
 }

@@ -1,88 +1,74 @@
 //! A directory of the system, as a run works in it.
 
 ghost use Rattle.std.specs.Path.{path_buf_bytes, path_join, path_with_file_name};
-ghost use Rattle.std.specs.Prelude.{◌≡◌, ◌++◌, ◌∷◌, [], IfOk, OnErr, OnOk, string_bytes};
-ghost use Rattle.redo_dir.specs.Loaded.{Shows};
-ghost use Rattle.redo_dir.specs.Stored.{IsNamed, put_of, steps_of};
+ghost use Rattle.std.specs.Prelude.{◌≡◌, ◌≢◌, ◌++◌, ◌∷◌, ◌<◌, [], Bool, IfOk, OnErr, OnOk, false, map, option_copied, string_bytes, true, vec_capacity, vec_len};
+ghost use Rattle.std.specs.List.{AllByRecursion};
+ghost use Rattle.redo_dir.specs.Called.{HasDone, IsCovered, dir_put};
+ghost use Rattle.redo_dir.specs.Stored.{Finishes, IsNamed, Journals, Puts, Removes, put_of, step_of, steps_of};
+ghost use Rattle.redo_dir.specs.declared.access.Access.TheVariants.{Read, StoreSynced};
+ghost use Rattle.redo_which.specs.Candidates.{book_path, journal_path};
 
+use crate::access::Access;
+use crate::calls::{Calls, ClosedFile};
 use crate::changes::Change;
 use crate::lock::DirLock;
+use crate::new_files::{NewContent, permissions_at, write_new};
 use crate::own::Tag;
-use crate::reading::read_bytes;
+use crate::reading::read_seen;
+use crate::system_calls::SystemCalls;
+use crate::waiting::{check_free, sync_each, sync_names};
 use crate::work_dir::{Drafted, Seen, WorkDir};
 use redo_path::Path;
 use redo_tree::Content;
 use redo_which::{BOOK, JOURNAL};
 use std::alloc::{AllocError, Global};
-use std::fs::{DirEntry, File, Metadata, OpenFile, Permissions};
-use std::io::{ErrorKind, Write};
+use std::io;
+use std::io::ErrorKind;
 use std::path::{Path as SystemPath, PathBuf};
 use std::rt::Files;
-use std::{fs, io};
 
 /// The names of the journal and of the book.
 const JOURNAL_NAME: &str = ".redo-journal";
 
 const BOOK_NAME: &str = ".redo-book";
 
-/// What a run may do in a directory, beside reading it.
-#[derive(Clone, Copy, Debug, PartialEq, Eq)]
-enum Access {
-    Read,
-    /// It stores files, without waiting until they are on the disk.
-    Store,
-    /// It waits until a file is on the disk before the file gets its name, and until the names are before it ends.
-    StoreSynced,
-}
-
 /// A directory of the system. It may itself be a link; what is below it is never reached by one.
 #[derive(Drop)]
-pub struct SystemDir<'a, R> {
-    rt: &'a R,
+pub struct SystemDir<'a, C: Calls> {
+    calls: C,
     /// Where the directory is.
     top: &'a str,
     access: Access,
     tag: Option<Tag>,
     done: Vec<Change>,
+    // What is noted as done is what the calls of the system come to.
+    ghost told: { HasDone C.after top.now access calls (steps_of done.items) },
 }
 
 /// A file of the system that was written under a temporary name.
 #[derive(Drop)]
-pub struct SystemDraft {
+pub struct SystemDraft<'a, F: ClosedFile + Drop> {
     path: Path,
     content: Content,
+    /// The directory that it is for.
+    top: &'a str,
     /// Where it is to be.
     place: PathBuf,
     /// Where it is, and its name there.
     beside: PathBuf,
     name: String,
+    file: F,
+    ghost placed: { path_buf_bytes place ≡ path_join top.now path },
+    ghost made: { ∥ F.made file (path_buf_bytes beside) ∥₁ },
+    ghost written: { ∥ ((synced : Bool) × (path ≡ book_path → synced ≡ true) × F.holds file (path_buf_bytes beside) content synced) ∥₁ },
 }
 
-impl Drafted for SystemDraft {
+impl<F: ClosedFile + Drop> Drafted for SystemDraft<'_, F> {
     ghost use Rattle.std.specs.Prelude.{string_bytes};
 
     ghost drafted = { λ d. (d.path, d.content) };
 
     ghost named = { λ d. string_bytes d.name };
-}
-
-/// The bytes of the file at a place, which had `size` of them when it was looked at. What it has grown by since isn't read.
-fn read_file<R: Files>(rt: &R, alloc: Global, place: &PathBuf, size: u64) -> io::Result<Vec<u8>> {
-    read_bytes(alloc, fs::open(rt, place.as_path())?, size as usize)
-}
-
-/// What a place leads to, of which the system says this.
-fn read_seen<R: Files>(rt: &R, alloc: Global, place: &PathBuf, about: &Metadata) -> io::Result<Seen>
-    ensures { IfOk result (Shows about.now) }
-{
-    if about.is_dir() {
-        return Ok(Seen::Directory);
-    }
-    if about.is_file() {
-        let bytes = read_file(rt, alloc, place, about.len())?;
-        return Ok(Seen::File(bytes));
-    }
-    Ok(Seen::Other)
 }
 
 /// Where the file with this temporary name is, beside a place.
@@ -92,113 +78,38 @@ fn place_beside(alloc: Global, place: &PathBuf, name: &str) -> Result<PathBuf, A
     place.with_file_name(alloc, name)
 }
 
-/// A name as it was listed, or none where it isn't text.
-fn name_of<F: Files + Drop>(
-    alloc: Global,
-    listed: io::Result<DirEntry<F, Global>>,
-) -> io::Result<Option<String>> {
-    match listed {
-        Ok(entry) => Ok(Some(String::from_str(alloc, entry.file_name())?)),
-        Err(error) if error.kind() == ErrorKind::InvalidFilename => Ok(None),
-        Err(error) => Err(error),
+/// Notes a change, for which there is room.
+fn note(done: &mut Vec<Change>, change: Change)
+    requires { vec_len done.old < vec_capacity done.old }
+    ensures { steps_of done.new.items ≡ steps_of done.old.items ++ step_of change ∷ [] }
+{
+    let _noted = done.push(change);
+}
+
+/// The directory of a file that got its name by this change.
+fn dir_of(change: &Change) -> Option<&[u8]>
+    ensures { option_copied result ≡ dir_put (step_of change.now) }
+{
+    match change {
+        Change::Put(path, _, _) => path.parent_text(),
+        _ => None,
     }
 }
 
-/// Who may read, write and run the file at a place, if one stands there.
-fn permissions_at<R: Files>(rt: &R, place: &PathBuf) -> io::Result<Option<Permissions>> {
-    match fs::symlink_metadata(rt, place.as_path()) {
-        Ok(about) if about.is_file() => Ok(Some(about.permissions())),
-        Ok(_) => Ok(None),
-        Err(error) if error.kind() == ErrorKind::NotFound => Ok(None),
-        Err(error) => Err(error),
+/// Whether this directory was the last one.
+fn is_last(last: Option<&[u8]>, dir: &[u8]) -> bool
+    ensures { result ≡ true → option_copied last.entry ≡ Some dir.now }
+{
+    match last {
+        Some(text) => text == dir,
+        None => false,
     }
 }
 
-/// Gives a new file these permissions. Where it has them, the system isn't asked: some file systems know no others.
-fn permit<F: OpenFile>(file: &F, permissions: Permissions) -> io::Result<()> {
-    if file.metadata()?.permissions() == permissions {
-        return Ok(());
-    }
-    file.set_permissions(permissions)
-}
-
-/// What a new file is to have.
-#[derive(Drop)]
-struct NewFile<'a> {
-    bytes: &'a [u8],
-    /// The permissions of the file that it replaces.
-    permissions: Option<Permissions>,
-    /// Whether it is waited for until it is on the disk.
-    synced: bool,
-}
-
-/// Fills a new file. It has its permissions before it has any bytes, so that nobody reads them who may not.
-fn fill<F: Write + OpenFile>(file: &mut F, new: NewFile<'_>) -> io::Result<()> {
-    if let Some(permissions) = new.permissions {
-        permit(file, permissions)?;
-    }
-    file.write_all(new.bytes)?;
-    if new.synced {
-        file.sync_all()?;
-    }
-    Ok(())
-}
-
-/// Writes a new file and closes it, or leaves no file of its own.
-fn write_new<R: Files>(rt: &R, place: &PathBuf, new: NewFile<'_>) -> io::Result<()> {
-    let mut file = File::create_new(rt, place.as_path())?;
-    let outcome = fill(&mut file, new);
-    drop(file);
-    if outcome.is_err() {
-        let _removed = fs::remove_file(rt, place.as_path());
-    }
-    outcome
-}
-
-/// Refuses a place where a file or a directory stands.
-fn check_free<R: Files>(rt: &R, place: &PathBuf) -> io::Result<()> {
-    match fs::symlink_metadata(rt, place.as_path()) {
-        Ok(about) if about.is_file() || about.is_dir() => {
-            Err(io::Error::from(ErrorKind::AlreadyExists))
-        }
-        Ok(_) => Ok(()),
-        Err(error) if error.kind() == ErrorKind::NotFound => Ok(()),
-        Err(error) => Err(error),
-    }
-}
-
-/// Waits until the names in a directory are on the disk. A file system that can't be asked for that is taken at its word.
-fn sync_names<R: Files>(rt: &R, place: &PathBuf) -> io::Result<()> {
-    let dir = fs::open(rt, place.as_path())?;
-    match dir.sync_all() {
-        Err(error)
-            if matches!(
-                error.kind(),
-                ErrorKind::InvalidInput | ErrorKind::Unsupported
-            ) => { Ok(()) }
-        outcome => outcome,
-    }
-}
-
-/// Writes a new file, whose name in the directory `top` is then on the disk; or leaves no file of its own.
-fn write_named<R: Files>(
-    rt: &R,
-    top: &PathBuf,
-    place: &PathBuf,
-    new: NewFile<'_>,
-) -> io::Result<()> {
-    write_new(rt, place, new)?;
-    let outcome = sync_names(rt, top);
-    if outcome.is_err() {
-        let _removed = fs::remove_file(rt, place.as_path());
-    }
-    outcome
-}
-
-impl<'a, R: Files> SystemDir<'a, R> {
+impl<'a, R: Files> SystemDir<'a, SystemCalls<&'a R>> {
     /// The directory at this path of the system, to be read alone.
-    pub fn new(rt: &'a R, alloc: Global, top: &'a str) -> SystemDir<'a, R> {
-        SystemDir::with_access(rt, alloc, top, Access::Read)
+    pub fn new(rt: &'a R, alloc: Global, top: &'a str) -> SystemDir<'a, SystemCalls<&'a R>> {
+        SystemDir::with_access(SystemCalls::new(rt), alloc, top, Access::Read)
     }
 
     /// The directory at this path of the system, whose lock is held, to be read and written. If `synced`, each file is on
@@ -209,18 +120,17 @@ impl<'a, R: Files> SystemDir<'a, R> {
         top: &'a str,
         _lock: &'a DirLock<R::File>,
         synced: bool,
-    ) -> SystemDir<'a, R> {
-        let access = if synced {
-            Access::StoreSynced
-        } else {
-            Access::Store
-        };
-        SystemDir::with_access(rt, alloc, top, access)
+    ) -> SystemDir<'a, SystemCalls<&'a R>> {
+        SystemDir::with_access(SystemCalls::new(rt), alloc, top, Access::storing(synced))
     }
+}
 
-    fn with_access(rt: &'a R, alloc: Global, top: &'a str, access: Access) -> SystemDir<'a, R> {
+impl<'a, C: Calls> SystemDir<'a, C> {
+    fn with_access(calls: C, alloc: Global, top: &'a str, access: Access) -> SystemDir<'a, C>
+        requires { C.after calls [] }
+    {
         SystemDir {
-            rt,
+            calls,
             top,
             access,
             tag: None,
@@ -229,46 +139,20 @@ impl<'a, R: Files> SystemDir<'a, R> {
     }
 
     /// Refuses a change of a directory that is read alone.
-    fn check_writable(&self) -> io::Result<()> {
+    fn check_writable(&self) -> io::Result<()>
+        ensures { OnOk result (self.now.access ≢ Read) }
+    {
         match self.access {
             Access::Read => Err(io::Error::from(ErrorKind::PermissionDenied)),
             Access::Store | Access::StoreSynced => Ok(()),
         }
     }
 
-    /// Where the system has a file of the top directory.
-    fn top_place(&self, alloc: Global, name: &str) -> io::Result<PathBuf> {
-        Ok(SystemPath::new(self.top).join(alloc, name)?)
-    }
-
-    /// The name of the temporary file with this number.
-    fn temporary_name(&self, alloc: Global, number: u64) -> io::Result<String>
-        ensures { IfOk result (λ name. IsNamed self.now.tag number (string_bytes name)) }
+    /// Where the system has a file or a directory of this path of text.
+    fn top_place(&self, alloc: Global, text: &str) -> io::Result<PathBuf>
+        ensures { IfOk result (λ place. path_buf_bytes place ≡ path_join self.now.top.now text.now) }
     {
-        match &self.tag {
-            Some(tag) => Ok(tag.name(alloc, number)?),
-            None => Err(io::Error::from(ErrorKind::PermissionDenied)),
-        }
-    }
-
-    /// Waits until the names of all files that were put are on the disk.
-    fn sync_puts(&self, alloc: Global) -> io::Result<()> {
-        let mut last = None;
-        for change in &self.done {
-            let Change::Put(path, _, _) = change else {
-                continue;
-            };
-            let dir = path.parent_text();
-            // Those of one directory follow one another mostly.
-            if dir != last {
-                last = dir;
-                let Ok(text) = str::from_utf8(dir.unwrap_or_default()) else {
-                    continue;
-                };
-                sync_names(self.rt, &self.top_place(alloc, text)?)?;
-            }
-        }
-        Ok(())
+        Ok(SystemPath::new(self.top).join(alloc, text)?)
     }
 
     /// Where the system has a path of the tree. The place is made in one block.
@@ -284,32 +168,216 @@ impl<'a, R: Files> SystemDir<'a, R> {
         Ok(place)
     }
 
-    /// Gives a draft its name, and notes that it has it.
-    fn name(&mut self, draft: &SystemDraft, over: bool) -> io::Result<()>
+    /// The name of the temporary file with this number.
+    fn temporary_name(&self, alloc: Global, number: u64) -> io::Result<String>
+        ensures { IfOk result (λ name. IsNamed self.now.tag number (string_bytes name)) }
+    {
+        match &self.tag {
+            Some(tag) => Ok(tag.name(alloc, number)?),
+            None => Err(io::Error::from(ErrorKind::PermissionDenied)),
+        }
+    }
+
+    /// Whether a file is waited for until it is on the disk before it gets this name.
+    fn waits_for(&self, path: &Path) -> bool
+        ensures { path.now ≡ book_path → result ≡ true }
+    {
+        // A book that was recovered is the only one once the journal is gone.
+        self.access == Access::StoreSynced || path.text() == BOOK
+    }
+
+    /// Where the system has a directory of the tree.
+    fn dir_place(&self, alloc: Global, dir: &[u8]) -> io::Result<PathBuf>
+        ensures { IfOk result (λ place. path_buf_bytes place ≡ path_join self.now.top.now dir.now) }
+    {
+        let Ok(text) = str::from_utf8(dir) else {
+            return Err(io::Error::from(ErrorKind::InvalidFilename));
+        };
+        self.top_place(alloc, text)
+    }
+
+    /// The places of the directories of all files that were put.
+    fn dirs_of_puts(&self, alloc: Global) -> io::Result<Vec<PathBuf>>
+        ensures { IfOk result (λ places.
+            AllByRecursion (IsCovered self.now.top.now (map path_buf_bytes places.items)) (steps_of self.now.done.items)) }
+    {
+        let mut places = Vec::new(alloc);
+        let mut last = None;
+        for change in &self.done {
+            let Some(dir) = dir_of(change) else {
+                continue;
+            };
+            // Those of one directory follow one another mostly.
+            if is_last(last, dir) {
+                continue;
+            }
+            places.push(self.dir_place(alloc, dir)?)?;
+            last = Some(dir);
+        }
+        Ok(places)
+    }
+
+    /// The places of the directories whose names are waited for before the run ends.
+    fn waits_at_end(&self, alloc: Global) -> io::Result<Vec<PathBuf>>
+        ensures { IfOk result (λ places. self.now.access ≡ StoreSynced →
+            AllByRecursion (IsCovered self.now.top.now (map path_buf_bytes places.items)) (steps_of self.now.done.items)) }
+    {
+        if self.access != Access::StoreSynced {
+            return Ok(Vec::new(alloc));
+        }
+        self.dirs_of_puts(alloc)
+    }
+
+    /// Room for one change more, so that none is made that can't be noted.
+    fn make_room(&mut self) -> Result<(), AllocError>
+        ensures room { OnOk result (vec_len self.new.done < vec_capacity self.new.done) }
+        ensures done { steps_of self.new.done.items ≡ steps_of self.old.done.items }
+        ensures top { self.new.top ≡ self.old.top }
+        ensures access { self.new.access ≡ self.old.access }
+        ensures tag { self.new.tag ≡ self.old.tag }
+    {
+        self.done.reserve(1)
+    }
+
+    /// Takes a name away, and notes that.
+    fn take_away(&mut self, place: &PathBuf, path: &Path) -> io::Result<()>
+        requires place { path_buf_bytes place.now ≡ path_join self.old.top.now path.now }
+        requires other { path.now ≢ journal_path }
+        requires writable { self.old.access ≢ Read }
+        ensures removed { OnOk result (steps_of self.new.done.items ≡ steps_of self.old.done.items ++ Removes path.now ∷ []) }
+        ensures kept { OnErr result (steps_of self.new.done.items ≡ steps_of self.old.done.items) }
+        ensures tag { self.new.tag ≡ self.old.tag }
+    {
+        let change = Change::Remove(path.clone()?);
+        self.done.reserve(1)?;
+        self.calls.unlink(place)?;
+        note(&mut self.done, change);
+        Ok(())
+    }
+
+    /// Takes the journal away, and notes that. The book that was recovered by it has its name on the disk before.
+    fn take_journal_away(&mut self, place: &PathBuf, top: &PathBuf, path: &Path) -> io::Result<()>
+        requires place { path_buf_bytes place.now ≡ path_join self.old.top.now path.now }
+        requires top { path_buf_bytes top.now ≡ path_join self.old.top.now [] }
+        requires journal { path.now ≡ journal_path }
+        requires writable { self.old.access ≢ Read }
+        ensures removed { OnOk result (steps_of self.new.done.items ≡ steps_of self.old.done.items ++ Removes path.now ∷ []) }
+        ensures kept { OnErr result (steps_of self.new.done.items ≡ steps_of self.old.done.items) }
+        ensures tag { self.new.tag ≡ self.old.tag }
+    {
+        let change = Change::Remove(path.clone()?);
+        self.done.reserve(1)?;
+        sync_names(&mut self.calls, top)?;
+        self.calls.unlink(place)?;
+        note(&mut self.done, change);
+        Ok(())
+    }
+
+    /// Makes the journal the book once the names in these directories are on the disk, and notes that.
+    fn take_over(&mut self, dirs: &[PathBuf], journal: &PathBuf, book: &PathBuf) -> io::Result<()>
+        requires dirs { self.old.access ≡ StoreSynced →
+            AllByRecursion (IsCovered self.old.top.now (map path_buf_bytes dirs.now)) (steps_of self.old.done.items) }
+        requires journal { path_buf_bytes journal.now ≡ path_join self.old.top.now journal_path }
+        requires book { path_buf_bytes book.now ≡ path_join self.old.top.now book_path }
+        requires writable { self.old.access ≢ Read }
+        ensures finished { OnOk result (steps_of self.new.done.items ≡ steps_of self.old.done.items ++ Finishes ∷ []) }
+        ensures kept { OnErr result (steps_of self.new.done.items ≡ steps_of self.old.done.items) }
+        ensures tag { self.new.tag ≡ self.old.tag }
+    {
+        self.done.reserve(1)?;
+        sync_each(&mut self.calls, dirs)?;
+        self.calls.rename(journal, book)?;
+        note(&mut self.done, Change::Finish);
+        Ok(())
+    }
+
+    /// Leaves the journal where it was written, waits until its name is on the disk, and notes that; or takes it away.
+    fn leave(
+        &mut self,
+        file: &C::Closed,
+        place: &PathBuf,
+        top: &PathBuf,
+        text: Content,
+    ) -> io::Result<()>
+        requires room { vec_len self.old.done < vec_capacity self.old.done }
+        requires written { C.Closed.holds file.now (path_buf_bytes place.now) text true }
+        requires place { path_buf_bytes place.now ≡ path_join self.old.top.now journal_path }
+        requires top { path_buf_bytes top.now ≡ path_join self.old.top.now [] }
+        requires writable { self.old.access ≢ Read }
+        ensures journal { OnOk result (steps_of self.new.done.items ≡ steps_of self.old.done.items ++ Journals text ∷ []) }
+        ensures kept { OnErr result (steps_of self.new.done.items ≡ steps_of self.old.done.items) }
+    {
+        self.calls.keep(file, place);
+        if let Err(error) = sync_names(&mut self.calls, top) {
+            let _removed = self.calls.unlink(place);
+            return Err(error);
+        }
+        note(&mut self.done, Change::Journal(text));
+        Ok(())
+    }
+
+    /// Gives a draft its name, whatever has it, and notes that.
+    fn name_over(&mut self, draft: &SystemDraft<'_, C::Closed>) -> io::Result<()>
+        requires top { draft.now.top.now ≡ self.old.top.now }
+        requires writable { self.old.access ≢ Read }
+        ensures stored { OnOk result (steps_of self.new.done.items ≡
+            steps_of self.old.done.items ++ Puts draft.now.path draft.now.content true ∷ []) }
+        ensures kept { OnErr result (steps_of self.new.done.items ≡ steps_of self.old.done.items) }
+        ensures tag { self.new.tag ≡ self.old.tag }
+    {
+        let change = Change::Put(draft.path.clone()?, draft.content.clone()?, true);
+        // So that no file gets a name that can't be noted.
+        self.done.reserve(1)?;
+        self.calls.name(&draft.file, &draft.beside, &draft.place)?;
+        note(&mut self.done, change);
+        Ok(())
+    }
+
+    /// Gives a draft its name where neither a file nor a directory has it, and notes that.
+    fn name_new(&mut self, draft: &SystemDraft<'_, C::Closed>) -> io::Result<()>
+        requires top { draft.now.top.now ≡ self.old.top.now }
+        requires writable { self.old.access ≢ Read }
+        ensures stored { OnOk result (steps_of self.new.done.items ≡
+            steps_of self.old.done.items ++ Puts draft.now.path draft.now.content false ∷ []) }
+        ensures kept { OnErr result (steps_of self.new.done.items ≡ steps_of self.old.done.items) }
+        ensures tag { self.new.tag ≡ self.old.tag }
+    {
+        let change = Change::Put(draft.path.clone()?, draft.content.clone()?, false);
+        self.done.reserve(1)?;
+        check_free(&mut self.calls, &draft.place)?;
+        self.calls.name(&draft.file, &draft.beside, &draft.place)?;
+        note(&mut self.done, change);
+        Ok(())
+    }
+
+    /// Gives a draft its name, and notes that it has it. A draft of another directory is refused.
+    fn name(&mut self, draft: &SystemDraft<'_, C::Closed>, over: bool) -> io::Result<()>
         ensures stored { OnOk result (steps_of self.new.done.items ≡
             steps_of self.old.done.items ++ put_of (draft.now.path, draft.now.content) over ∷ []) }
         ensures kept { OnErr result (steps_of self.new.done.items ≡ steps_of self.old.done.items) }
         ensures tag { self.new.tag ≡ self.old.tag }
     {
-        let change = Change::Put(draft.path.clone()?, draft.content.clone()?, over);
-        // So that no file gets a name that can't be noted.
-        self.done.reserve(1)?;
-        if !over {
-            check_free(self.rt, &draft.place)?;
+        self.check_writable()?;
+        if draft.top != self.top {
+            return Err(io::Error::from(ErrorKind::InvalidInput));
         }
-        fs::rename(self.rt, draft.beside.as_path(), draft.place.as_path())?;
-        self.done.push(change)?;
-        Ok(())
+        if over {
+            self.name_over(draft)
+        } else {
+            self.name_new(draft)
+        }
     }
 }
 
-impl<R: Files> WorkDir for SystemDir<'_, R> {
+impl<'a, C: Calls> WorkDir for SystemDir<'a, C> {
     ghost use Rattle.std.specs.Prelude.{option_map};
+    ghost use Rattle.std.specs.Path.{path_join};
+    ghost use Rattle.redo_dir.specs.Called.{LeadsTo};
     ghost use Rattle.redo_dir.specs.Stored.{steps_of};
 
-    ghost lists = { λ _ _ _. Unit {0} };
+    ghost lists = { λ d dir. C.lists d.calls (path_join d.top.now dir) };
 
-    ghost leads = { λ _ _ _. Unit {0} };
+    ghost leads = { λ d path. LeadsTo (C.stands d.calls) (C.opens d.calls) (path_join d.top.now path) };
 
     ghost refuses = { λ _ _ _. Unit {0} };
 
@@ -317,22 +385,17 @@ impl<R: Files> WorkDir for SystemDir<'_, R> {
 
     ghost tagged = { λ d. d.tag };
 
-    type Draft = SystemDraft;
+    type Draft = SystemDraft<'a, C::Closed>;
 
     fn list(&self, alloc: Global, dir: &Path) -> io::Result<Vec<Option<String>>> {
         let place = self.place(alloc, dir)?;
-        let reader = (self.rt, alloc);
-        let mut names = Vec::new(alloc);
-        for listed in fs::read_dir(&reader, place.as_path())? {
-            names.push(name_of(alloc, listed)?)?;
-        }
-        Ok(names)
+        self.calls.list(alloc, &place)
     }
 
     fn look(&self, alloc: Global, path: &Path) -> io::Result<Seen> {
         let place = self.place(alloc, path)?;
-        let about = fs::symlink_metadata(self.rt, place.as_path())?;
-        read_seen(self.rt, alloc, &place, &about)
+        let about = self.calls.look(&place)?;
+        read_seen(&self.calls, alloc, &place, &about)
     }
 
     fn journal(&mut self, alloc: Global, text: &Content) -> io::Result<()> {
@@ -340,16 +403,16 @@ impl<R: Files> WorkDir for SystemDir<'_, R> {
         let top = self.top_place(alloc, "")?;
         let place = self.top_place(alloc, JOURNAL_NAME)?;
         let book = self.top_place(alloc, BOOK_NAME)?;
-        let change = Change::Journal(text.clone()?);
+        let kept = text.clone()?;
         let tag = Tag::of(alloc, text)?;
-        self.done.reserve(1)?;
-        let new = NewFile {
+        self.make_room()?;
+        let new = NewContent {
             bytes: text.bytes(),
-            permissions: permissions_at(self.rt, &book)?,
+            permissions: permissions_at(&self.calls, &book)?,
             synced: true,
         };
-        write_named(self.rt, &top, &place, new)?;
-        self.done.push(change)?;
+        let file = write_new(&self.calls, &place, new)?;
+        self.leave(&file, &place, &top, kept)?;
         self.tag = Some(tag);
         Ok(())
     }
@@ -361,15 +424,10 @@ impl<R: Files> WorkDir for SystemDir<'_, R> {
 
     fn finish(&mut self, alloc: Global) -> io::Result<()> {
         self.check_writable()?;
-        if self.access == Access::StoreSynced {
-            self.sync_puts(alloc)?;
-        }
+        let dirs = self.waits_at_end(alloc)?;
         let journal = self.top_place(alloc, JOURNAL_NAME)?;
         let book = self.top_place(alloc, BOOK_NAME)?;
-        self.done.reserve(1)?;
-        fs::rename(self.rt, journal.as_path(), book.as_path())?;
-        self.done.push(Change::Finish)?;
-        Ok(())
+        self.take_over(&dirs, &journal, &book)
     }
 
     fn draft(
@@ -378,7 +436,7 @@ impl<R: Files> WorkDir for SystemDir<'_, R> {
         path: &Path,
         content: &Content,
         number: u64,
-    ) -> io::Result<SystemDraft> {
+    ) -> io::Result<SystemDraft<'a, C::Closed>> {
         self.check_writable()?;
         if path.text() == JOURNAL {
             return Err(io::Error::from(ErrorKind::InvalidFilename));
@@ -386,28 +444,30 @@ impl<R: Files> WorkDir for SystemDir<'_, R> {
         let place = self.place(alloc, path)?;
         let name = self.temporary_name(alloc, number)?;
         let beside = place_beside(alloc, &place, &name)?;
-        // A book that was recovered is the only one once the journal is gone.
-        let synced = self.access == Access::StoreSynced || path.text() == BOOK;
-        let new = NewFile {
+        let synced = self.waits_for(path);
+        let new = NewContent {
             bytes: content.bytes(),
-            permissions: permissions_at(self.rt, &place)?,
+            permissions: permissions_at(&self.calls, &place)?,
             synced,
         };
-        let draft = SystemDraft {
-            path: path.clone()?,
-            content: content.clone()?,
+        let path = path.clone()?;
+        let kept = content.clone()?;
+        let file = write_new(&self.calls, &beside, new)?;
+        Ok(SystemDraft {
+            path,
+            content: kept,
+            top: self.top,
             place,
             beside,
             name,
-        };
-        write_new(self.rt, &draft.beside, new)?;
-        Ok(draft)
+            file,
+        })
     }
 
-    fn put(&mut self, draft: SystemDraft, over: bool) -> io::Result<()> {
+    fn put(&mut self, draft: SystemDraft<'a, C::Closed>, over: bool) -> io::Result<()> {
         let outcome = self.name(&draft, over);
         if outcome.is_err() {
-            let _removed = fs::remove_file(self.rt, draft.beside.as_path());
+            let _removed = self.calls.discard(&draft.file, &draft.beside);
         }
         outcome
     }
@@ -415,22 +475,18 @@ impl<R: Files> WorkDir for SystemDir<'_, R> {
     fn remove(&mut self, alloc: Global, path: &Path) -> io::Result<()> {
         self.check_writable()?;
         let place = self.place(alloc, path)?;
-        let change = Change::Remove(path.clone()?);
-        self.done.reserve(1)?;
         if path.text() == JOURNAL {
-            // The book that was recovered by it has its name on the disk before.
-            sync_names(self.rt, &self.top_place(alloc, "")?)?;
+            let top = self.top_place(alloc, "")?;
+            return self.take_journal_away(&place, &top, path);
         }
-        fs::remove_file(self.rt, place.as_path())?;
-        self.done.push(change)?;
-        Ok(())
+        self.take_away(&place, path)
     }
 
     fn count(&self) -> usize {
         self.done.len()
     }
 
-    fn discard(&self, draft: SystemDraft) {
-        let _removed = fs::remove_file(self.rt, draft.beside.as_path());
+    fn discard(&self, draft: SystemDraft<'a, C::Closed>) {
+        let _removed = self.calls.discard(&draft.file, &draft.beside);
     }
 }

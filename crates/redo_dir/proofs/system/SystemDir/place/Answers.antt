@@ -1,4 +1,4 @@
-use Rattle.std.proofs.Common.{◌≡◌, ◌∙◌, ap, ap₂}
+use Rattle.std.proofs.Common.{◌∙◌, ap, ap₂}
 use Rattle.std.specs.Path.{path_join}
 use Rattle.redo_dir.proofs.ReadingLemmas.{joined-to-nothing}
 use Rattle.redo_dir.proofs.system.SystemDir.place.Goals as goal

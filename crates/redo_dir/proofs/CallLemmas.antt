@@ -1,0 +1,94 @@
+-- The calls of the system, and what they come to.
+use Rattle.std.proofs.Common.{◌≡◌, ◌≢◌, ◌∙◌, inl, inr, ℕ, true, false, List, [], ◌∷◌, ◌++◌, Option, ap, append_assoc, append-nil, Result, Ok, Err, rules, refl, subst, sym}
+use Rattle.std.proofs.Math.Logic.{∥∥₁_elim, ∥∥₁_prop}
+use Rattle.std.specs.Prelude.{IsOk, OnErr, OnOk, if◌then◌else◌, is_ok}
+use Rattle.std.proofs.lemmas.List.{map-append}
+use Rattle.std.specs.Path.{path_join}
+use Rattle.std.specs.declared.io.ErrorKind.{ErrorKind}
+use Rattle.redo_which.specs.Candidates.{journal_path}
+use Rattle.redo_dir.specs.declared.access.Access.{Access}
+use Rattle.redo_dir.specs.declared.access.Access.TheVariants.{Read}
+use Rattle.redo_dir.specs.Stored.{Step, step_of, steps_of}
+use Rattle.redo_dir.specs.declared.changes.Change.{Change}
+use Rattle.redo_dir.specs.Called.{AreParts, Call, Does, Follows, HasDone, IsPart, Keeps, Part, Stays, Syncs, Unlinks, calls_in, is_waited_for, steps_in}
+
+calls_in-append : (ps qs : List Part) → calls_in (ps ++ qs) ≡ calls_in ps ++ calls_in qs
+calls_in-append [] qs = refl
+calls_in-append (p ∷ ps) qs = ap (λ xs. p.0 ++ xs) (calls_in-append ps qs) ∙ sym (append_assoc p.0 (calls_in ps) (calls_in qs))
+
+steps_in-append : (ps qs : List Part) → steps_in (ps ++ qs) ≡ steps_in ps ++ steps_in qs
+steps_in-append [] qs = refl
+steps_in-append (p ∷ ps) qs = ap (λ xs. p.1 ++ xs) (steps_in-append ps qs) ∙ sym (append_assoc p.1 (steps_in ps) (steps_in qs))
+
+-- parts, and others behind them
+parts-append : (top : List ℕ) (access : Access) (before : List Step) (ps qs : List Part) → AreParts top access before ps → AreParts top access (before ++ steps_in ps) qs → AreParts top access before (ps ++ qs)
+parts-append top access before [] qs first next = subst (λ b. AreParts top access b qs) (append-nil before) next
+parts-append top access before (p ∷ ps) qs first next =
+    (first.0, parts-append top access (before ++ p.1) ps qs first.1 (subst (λ b. AreParts top access b qs) (sym (append_assoc before p.1 (steps_in ps))) next))
+
+-- a log that comes to steps, and calls that are one part more
+does_more : (top : List ℕ) (access : Access) (log calls : List Call) (steps more : List Step) → Does top access log steps → IsPart top access steps calls more → Does top access (log ++ calls) (steps ++ more)
+does_more top access log calls steps more d part = record {
+  parts = d.parts ++ (calls, more) ∷ [];
+  calls = calls_in-append d.parts ((calls, more) ∷ []) ∙ ap (λ xs. xs ++ (calls ++ [])) d.calls ∙ ap (λ xs. log ++ xs) (append-nil calls);
+  done = steps_in-append d.parts ((calls, more) ∷ []) ∙ ap (λ xs. xs ++ (more ++ [])) d.done ∙ ap (λ xs. steps ++ xs) (append-nil more);
+  each = parts-append top access [] d.parts ((calls, more) ∷ []) d.each (subst (λ b. IsPart top access b calls more) (sym d.done) part, tt);
+}
+
+-- none was called so far
+pub none_done : {C : Type 0} (after : C → List Call → Type 0) (top : List ℕ) (access : Access) (now : C) → after now [] → HasDone after top access now []
+none_done after top access now h = ∣ ([], h, λ e. refl, record { parts = []; calls = refl; done = refl; each = tt }) ∣₁
+
+-- the same steps, told otherwise
+pub told_same : {C : Type 0} (after : C → List Call → Type 0) (top : List ℕ) (access : Access) (now : C) (steps same : List Step) → HasDone after top access now steps → same ≡ steps → HasDone after top access now same
+told_same after top access now steps same h e = subst (HasDone after top access now) (sym e) h
+
+-- no call was answered well
+pub told_kept : {C : Type 0} (after : C → List Call → Type 0) (top : List ℕ) (access : Access) (old new : C) (steps same : List Step) → HasDone after top access old steps → Keeps after old new → same ≡ steps → HasDone after top access new same
+told_kept after top access old new steps same h k e =
+    subst (HasDone after top access new) (sym e) (∥∥₁_elim h ∥∥₁_prop
+    (λ (w : (log : List Call) × after old log × (access ≡ Read → log ≡ []) × Does top access log steps). ∣ (w.0, k w.0 w.1, w.2, w.3) ∣₁))
+
+-- calls were answered that are one part
+pub told_more : {C : Type 0} (after : C → List Call → Type 0) (top : List ℕ) (access : Access) (old new : C) (calls : List Call) (steps more all : List Step) → access ≢ Read → HasDone after top access old steps → Follows after old calls new → IsPart top access steps calls more → all ≡ steps ++ more → HasDone after top access new all
+told_more after top access old new calls steps more all writes h f part e =
+    subst (HasDone after top access new) (sym e) (∥∥₁_elim h ∥∥₁_prop
+    (λ (w : (log : List Call) × after old log × (access ≡ Read → log ≡ []) × Does top access log steps).
+    ∣ (w.0 ++ calls, f w.0 w.1, (λ r. absurd (writes r)), does_more top access w.0 calls steps more w.3 part) ∣₁))
+
+-- and where they come to no step
+pub told_idle : {C : Type 0} (after : C → List Call → Type 0) (top : List ℕ) (access : Access) (old new : C) (calls : List Call) (steps same : List Step) → access ≢ Read → HasDone after top access old steps → Follows after old calls new → IsPart top access steps calls [] → same ≡ steps → HasDone after top access new same
+told_idle after top access old new calls steps same writes h f part e = told_more after top access old new calls steps [] same writes h f part (e ∙ sym (append-nil steps))
+
+-- calls behind calls
+pub follows_both : {C : Type 0} (after : C → List Call → Type 0) (old mid new : C) (first next : List Call) → Follows after old first mid → Follows after mid next new → Follows after old (first ++ next) new
+follows_both after old mid new first next f n log h = subst (after new) (append_assoc log first next) (n (log ++ first) (f log h))
+
+-- and then none that was answered well
+pub follows_kept : {C : Type 0} (after : C → List Call → Type 0) (old mid new : C) (first : List Call) → Follows after old first mid → Keeps after mid new → Follows after old first new
+follows_kept after old mid new first f k log h = k (log ++ first) (f log h)
+
+-- none was called
+pub follows_none : {C : Type 0} (after : C → List Call → Type 0) (now : C) → Follows after now [] now
+follows_none after now log h = subst (after now) (sym (append-nil log)) h
+
+-- a change that was pushed where there was room
+pub noted : {E : Type 0} (r : Result (Unit {0}) E) (old new : List Change) (change : Change) → new ≡ (if is_ok r then old ++ change ∷ [] else old) → IsOk r → steps_of new ≡ steps_of old ++ step_of change ∷ []
+noted (Ok x) old new change e ok = ap steps_of e ∙ map-append step_of old (change ∷ [])
+noted (Err x) old new change e ok = search rules
+
+-- a journal that isn't one, since its name can't be waited for
+pub told_undone : {C E : Type 0} (after : C → List Call → Type 0) (top : List ℕ) (access : Access) (old mid late new : C) (text : List ℕ) (answer : Option ErrorKind) (steps : List Step) (r : Result (Unit {0}) E) → access ≢ Read → HasDone after top access old steps → Follows after old (Stays (path_join top journal_path) text true ∷ []) mid → Follows after mid (Syncs (path_join top []) answer ∷ []) late → is_waited_for answer ≡ false → OnOk r (Follows after late (Unlinks (path_join top journal_path) ∷ []) new) → OnErr r (Keeps after late new) → HasDone after top access new steps
+told_undone after top access old mid late new text answer steps (Ok x) writes h f s w gone kept =
+    let stays = Stays (path_join top journal_path) text true in
+    let syncs = Syncs (path_join top []) answer in
+    let unlinks = Unlinks (path_join top journal_path) in
+    told_idle after top access old new (stays ∷ syncs ∷ unlinks ∷ []) steps steps writes h
+    (follows_both after old late new (stays ∷ syncs ∷ []) (unlinks ∷ []) (follows_both after old mid late (stays ∷ []) (syncs ∷ []) f s) gone)
+    (inr (text, answer, unlinks ∷ [], w, inr refl, refl)) refl
+told_undone after top access old mid late new text answer steps (Err x) writes h f s w gone kept =
+    let stays = Stays (path_join top journal_path) text true in
+    let syncs = Syncs (path_join top []) answer in
+    told_idle after top access old new (stays ∷ syncs ∷ []) steps steps writes h
+    (follows_kept after old late new (stays ∷ syncs ∷ []) (follows_both after old mid late (stays ∷ []) (syncs ∷ []) f s) kept)
+    (inr (text, answer, [], w, inl refl, refl)) refl

@@ -1,0 +1,175 @@
+-- The calls of the system that changed something, and what they come to in a directory.
+use Rattle.std.specs.Prelude.{◌≡◌, ◌≢◌, ◌⊎◌, ℕ, Bool, true, false, List, [], ◌∷◌, ◌++◌, Option, Some, None, Result, Ok, Err, IfSome, map, take, zero, suc}
+use Rattle.std.specs.Fs.{IsDir, IsFile, file_type, metadata_len}
+use Rattle.std.specs.List.{AllByRecursion}
+use Rattle.std.specs.Path.{path_join}
+use Rattle.std.specs.declared.fs.attrs.Metadata.{Metadata}
+use Rattle.std.specs.declared.io.ErrorKind.{ErrorKind}
+use Rattle.std.specs.declared.io.ErrorKind.TheVariants.{InvalidInput, NotFound, Unsupported}
+use Rattle.redo_path.specs.Names.{parent_of}
+use Rattle.redo_dir.specs.declared.access.Access.{Access}
+use Rattle.redo_dir.specs.declared.access.Access.TheVariants.{Read, StoreSynced}
+use Rattle.redo_dir.specs.Stored.{Step, Finishes, Journals, Puts, Removes}
+use Rattle.redo_tree.specs.Tree.{Node, Directory, File}
+use Rattle.redo_which.specs.Candidates.{book_path, journal_path}
+
+-- what a place was looked at as, or the error
+abbrev pub Found : Type 0
+Found = Result Metadata ErrorKind
+
+-- a call that changes something or is made between two that do, with its answer; those without one were answered well
+pub data Call : Type 0 where
+  -- the new file at the first place, to which these bytes were written whole (and waited for, or not), got the second
+  Names : List ℕ → List ℕ → Bool → List ℕ → Call
+  -- the new file at this place, to which these bytes were written whole (and waited for, or not), is to stay there
+  Stays : List ℕ → List ℕ → Bool → Call
+  -- what was at the first place got the second
+  Renames : List ℕ → List ℕ → Call
+  -- the name at this place was taken away
+  Unlinks : List ℕ → Call
+  -- the names in the directory at this place were waited for
+  Syncs : List ℕ → Option ErrorKind → Call
+  -- the place was looked at, and no link was followed
+  Finds : List ℕ → Found → Call
+
+-- behind old the system answered these calls, and then it is new
+abbrev pub Follows : {C : Type 0} → (C → List Call → Type 0) → C → List Call → C → Type 0
+Follows after old calls new = (log : List Call) → after old log → after new (log ++ calls)
+
+-- between old and new the system answered none
+abbrev pub Keeps : {C : Type 0} → (C → List Call → Type 0) → C → C → Type 0
+Keeps after old new = (log : List Call) → after old log → after new log
+
+-- neither a file nor a directory was found
+abbrev pub IsFree : Found → Type 0
+IsFree (Ok about) = (IsDir (file_type about) → ⊥) × (IsFile (file_type about) → ⊥)
+IsFree (Err kind) = kind ≡ NotFound
+
+-- whether the names are on the disk, or the file system can't be asked for that
+abbrev pub is_waited_for : Option ErrorKind → Bool
+is_waited_for None = true
+is_waited_for (Some InvalidInput) = true
+is_waited_for (Some Unsupported) = true
+is_waited_for (Some kind) = false
+
+-- a directory whose names were waited for, with the answer
+abbrev pub Wait : Type 0
+Wait = List ℕ × Option ErrorKind
+
+abbrev pub call_of : Wait → Call
+call_of (place, answer) = Syncs place answer
+
+-- these directories were waited for, and their names are on the disk
+pub record AreOnDisk (places : List (List ℕ)) (waits : List Wait) : Type 0 where
+  pub asked : map (λ w. w.0) waits ≡ places
+  pub each : AllByRecursion (λ w. is_waited_for w.1 ≡ true) waits
+
+-- the directory in which a step gave a file its name
+abbrev pub dir_put : Step → Option (List ℕ)
+dir_put (Puts path bytes over) = parent_of path
+dir_put (Journals text) = None
+dir_put Finishes = None
+dir_put (Removes path) = None
+
+-- a place is one of these
+abbrev pub IsAmong : List (List ℕ) → List ℕ → Type 0
+IsAmong [] place = ⊥
+IsAmong (p ∷ ps) place = (p ≡ place) ⊎ IsAmong ps place
+
+-- the directory in which a step gave a file its name is one of these, below top
+abbrev pub IsCovered : List ℕ → List (List ℕ) → Step → Type 0
+IsCovered top places step = IfSome (dir_put step) (λ dir. IsAmong places (path_join top dir))
+
+-- calls that come to no step: looks and waits
+abbrev pub IsIdle : Call → Type 0
+IsIdle (Names from bytes synced to) = ⊥
+IsIdle (Stays place bytes synced) = ⊥
+IsIdle (Renames from to) = ⊥
+IsIdle (Unlinks place) = ⊥
+IsIdle (Syncs place answer) = Unit {0}
+IsIdle (Finds place found) = Unit {0}
+
+-- In the directory at top these calls are that step, behind those before it. A run that waits for its files makes the
+-- journal the book once the names that it gave are on the disk.
+abbrev pub IsStep : List ℕ → Access → List Step → List Call → Step → Type 0
+IsStep top access before calls (Journals text) =
+    (answer : Option ErrorKind) × (is_waited_for answer ≡ true) ×
+    (calls ≡ Stays (path_join top journal_path) text true ∷ Syncs (path_join top []) answer ∷ [])
+IsStep top access before calls (Puts path bytes true) =
+    (from : List ℕ) × (synced : Bool) × (path ≡ book_path → synced ≡ true) × (calls ≡ Names from bytes synced (path_join top path) ∷ [])
+IsStep top access before calls (Puts path bytes false) =
+    (from : List ℕ) × (synced : Bool) × (path ≡ book_path → synced ≡ true) × (found : Found) × IsFree found ×
+    (calls ≡ Finds (path_join top path) found ∷ Names from bytes synced (path_join top path) ∷ [])
+IsStep top access before calls Finishes =
+    (places : List (List ℕ)) × (waits : List Wait) × AreOnDisk places waits ×
+    (access ≡ StoreSynced → AllByRecursion (IsCovered top places) before) ×
+    (calls ≡ map call_of waits ++ Renames (path_join top journal_path) (path_join top book_path) ∷ [])
+IsStep top access before calls (Removes path) =
+    ((path ≢ journal_path) × (calls ≡ Unlinks (path_join top path) ∷ [])) ⊎
+    ((answer : Option ErrorKind) × (is_waited_for answer ≡ true) × (path ≡ journal_path) ×
+    (calls ≡ Syncs (path_join top []) answer ∷ Unlinks (path_join top path) ∷ []))
+
+-- A journal that isn't one, since its name can't be waited for, is taken away if it can be.
+abbrev pub IsUndone : List ℕ → List Call → Type 0
+IsUndone top calls =
+    (text : List ℕ) × (answer : Option ErrorKind) × (gone : List Call) × (is_waited_for answer ≡ false) ×
+    ((gone ≡ []) ⊎ (gone ≡ Unlinks (path_join top journal_path) ∷ [])) ×
+    (calls ≡ Stays (path_join top journal_path) text true ∷ Syncs (path_join top []) answer ∷ gone)
+
+-- calls that belong together, behind the steps before them, and the steps that they are: one or none
+abbrev pub IsPart : List ℕ → Access → List Step → List Call → List Step → Type 0
+IsPart top access before calls [] = AllByRecursion IsIdle calls ⊎ IsUndone top calls
+IsPart top access before calls (step ∷ []) = IsStep top access before calls step
+IsPart top access before calls (step ∷ more ∷ steps) = ⊥
+
+abbrev pub Part : Type 0
+Part = List Call × List Step
+
+abbrev pub calls_in : List Part → List Call
+calls_in [] = []
+calls_in (p ∷ ps) = p.0 ++ calls_in ps
+
+abbrev pub steps_in : List Part → List Step
+steps_in [] = []
+steps_in (p ∷ ps) = p.1 ++ steps_in ps
+
+-- these are parts, one behind another, behind the steps before them
+abbrev pub AreParts : List ℕ → Access → List Step → List Part → Type 0
+AreParts top access before [] = Unit {0}
+AreParts top access before (p ∷ ps) = IsPart top access before p.0 p.1 × AreParts top access (before ++ p.1) ps
+
+-- in the directory at top, a log of calls comes to these steps, in this order
+pub record Does (top : List ℕ) (access : Access) (log : List Call) (steps : List Step) : Type 0 where
+  pub parts : List Part
+  pub calls : calls_in parts ≡ log
+  pub done : steps_in parts ≡ steps
+  pub each : AreParts top access [] parts
+
+-- What the system was called for so far comes to these steps; where the directory is read alone, nothing was.
+abbrev pub HasDone : {C : Type 0} → (C → List Call → Type 0) → List ℕ → Access → C → List Step → Type 0
+HasDone after top access calls steps =
+    ∥ ((log : List Call) × after calls log × (access ≡ Read → log ≡ []) × Does top access log steps) ∥₁
+
+-- the bytes that are read of a file of this size; some file systems say 0 where they know none
+abbrev pub front_read : ℕ → List ℕ → List ℕ
+front_read zero bytes = bytes
+front_read (suc n) bytes = take (suc n) bytes
+
+-- What a place leads to, as the system answered: it was looked at, and where it is a file, that was read.
+abbrev pub LeadsTo : (List ℕ → Found → Type 0) → (List ℕ → Option (List ℕ) → Type 0) → List ℕ → Option Node → Type 0
+LeadsTo stands opens place (Some Directory) = (about : Metadata) × stands place (Ok about) × IsDir (file_type about)
+LeadsTo stands opens place (Some (File bytes)) =
+    (about : Metadata) × stands place (Ok about) × IsFile (file_type about) ×
+    (holds : Option (List ℕ)) × opens place holds × IfSome holds (λ all. bytes ≡ front_read (metadata_len about) all)
+LeadsTo stands opens place None =
+    (about : Metadata) × stands place (Ok about) × (IsDir (file_type about) → ⊥) × (IsFile (file_type about) → ⊥)
+
+-- the answer of a look, whose errors are of these kinds
+abbrev pub found_of : {E : Type 0} → (E → ErrorKind) → Result Metadata E → Found
+found_of kind (Ok about) = Ok about
+found_of kind (Err error) = Err (kind error)
+
+-- the answer of a wait
+abbrev pub answer_of : {A E : Type 0} → (E → ErrorKind) → Result A E → Option ErrorKind
+answer_of kind (Ok x) = None
+answer_of kind (Err error) = Some (kind error)
