@@ -1,4 +1,4 @@
-//! Why no build was opened.
+//! Why no build was opened, or a build has no report.
 ghost use Rattle.std.specs.Prelude.{◌≡◌};
 
 use crate::board::Stop;
@@ -6,16 +6,17 @@ use redo_book::BookFault;
 use std::alloc::AllocError;
 use thiserror::Error;
 
-/// Why no build was opened. The book is looked at first.
+/// Why no build was opened, or why a build has no report. The book is looked at first.
 #[derive(Clone, Copy, Debug, PartialEq, Eq, Error)]
 pub enum OpenFault {
     /// The book of the last run has a fault, first in this line, counted from 1.
-    #[error("line {0} of the book of the last run is at fault")]
+    #[error("the book of the last run is refused for its line {0}")]
     Book(u64),
-    /// More targets are needed than the limit allows: those requested, and those that the board's first looks ask for.
+    /// More targets are needed than the limit allows. Where a board is opened, those are the ones requested and those that
+    /// its first looks ask for.
     #[error("more targets are needed than the limit allows")]
     TooMany,
-    /// Memory ran out.
+    /// Memory ran out, or a thread of the build couldn't be started.
     #[error("out of memory")]
     Memory,
 }

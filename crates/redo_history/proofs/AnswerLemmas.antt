@@ -11,8 +11,8 @@ use Rattle.redo_past.specs.Past.{PastView}
 use Rattle.redo_step.specs.Limits.{LimitsView}
 use Rattle.redo_tree.specs.Tree.{Tree, file_at}
 use Rattle.redo_which.specs.Candidates.{book_path}
-use Rattle.redo_run.specs.declared.run_fault.RunFault.{RunFault}
-use Rattle.redo_run.specs.declared.run_fault.RunFault.TheVariants.{Book, TooMany, Memory}
+use Rattle.redo_core.specs.declared.opening.OpenFault.{OpenFault as RunFault}
+use Rattle.redo_core.specs.declared.opening.OpenFault.TheVariants.{Book, TooMany, Memory}
 use Rattle.redo_history.specs.Answers.{AreSameAnswers, AreSameReports, MayAnswer, without_ledger}
 use Rattle.redo_history.proofs.ReportLemmas.{OnePast, one-given}
 

@@ -3,8 +3,8 @@ use Rattle.std.specs.Prelude.{◌≡◌, ℕ, List, Result, Ok, Err, map}
 use Rattle.redo_report.specs.declared.report.Report.{Report}
 use Rattle.redo_rules.specs.Results.{IsRefused, IsResultOn, NeedsTooMany}
 use Rattle.redo_run.specs.Skipping.{told_by_row}
-use Rattle.redo_run.specs.declared.run_fault.RunFault.{RunFault}
-use Rattle.redo_run.specs.declared.run_fault.RunFault.TheVariants.{Book, TooMany, Memory}
+use Rattle.redo_core.specs.declared.opening.OpenFault.{OpenFault as RunFault}
+use Rattle.redo_core.specs.declared.opening.OpenFault.TheVariants.{Book, TooMany, Memory}
 use Rattle.redo_step.specs.Limits.{LimitsView}
 use Rattle.redo_tree.specs.Tree.{Tree}
 

@@ -10,7 +10,7 @@ ghost use Rattle.redo_recover.specs.Broken.{GoesOn};
 ghost use Rattle.redo_run.specs.Runs.{Reports};
 ghost use Rattle.redo_run.specs.declared.bundle.BundleRun.{BundleRun};
 ghost use Rattle.redo_run.specs.declared.options.Options.{Options};
-ghost use Rattle.redo_run.specs.declared.run_fault.RunFault.{RunFault};
+ghost use Rattle.redo_core.specs.declared.opening.OpenFault.{OpenFault as RunFault};
 ghost use Rattle.redo_history.specs.Answers.{AreSameAnswers, AreSameReports, MayAnswer};
 ghost use Rattle.redo_history.specs.Histories.{HasBookOf, HasRecordsOf, IsAfter, IsPlainOn, NoneConfused, Run};
 ghost use Rattle.redo_history.specs.SmallHistory.{IsSmallHistory};

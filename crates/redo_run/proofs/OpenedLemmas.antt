@@ -9,8 +9,8 @@ use Rattle.redo_past.specs.Past.{IsPast, PastView}
 use Rattle.redo_report.specs.declared.report.Report.{Report}
 use Rattle.redo_rules.specs.Build.{GivenView}
 use Rattle.redo_rules.specs.Results.{IsGiven, IsResult, IsResultOn, NeedsTooMany}
-use Rattle.redo_run.specs.RunFaults.{of_stop}
-use Rattle.redo_run.specs.declared.run_fault.RunFault.TheVariants.{Book, TooMany}
+use Rattle.redo_core.specs.Faults.{opening_fault_of as of_stop}
+use Rattle.redo_core.specs.declared.opening.OpenFault.TheVariants.{Book, TooMany}
 use Rattle.redo_step.specs.Limits.{LimitsView}
 use Rattle.redo_tree.specs.Tree.{Tree}
 

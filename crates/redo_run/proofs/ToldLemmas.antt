@@ -16,8 +16,8 @@ use Rattle.redo_run.specs.declared.options.Options.{Options}
 use Rattle.redo_run.specs.declared.fault.RunIoFault.{RunIoFault}
 use Rattle.redo_run.specs.declared.fault.RunIoFault.TheVariants as run
 use Rattle.redo_run.specs.declared.exit.Exit.{Exit}
-use Rattle.redo_run.specs.declared.run_fault.RunFault.{RunFault}
-use Rattle.redo_run.specs.declared.run_fault.RunFault.TheVariants as build
+use Rattle.redo_core.specs.declared.opening.OpenFault.{OpenFault as RunFault}
+use Rattle.redo_core.specs.declared.opening.OpenFault.TheVariants as build
 use Rattle.redo_run.specs.Exits.{IsExitOf}
 use Rattle.redo_run.specs.declared.dir_fault.RunDirFault.TheVariants as dir
 use Rattle.redo_run.specs.DirFaults.{of_run}

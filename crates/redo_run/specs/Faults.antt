@@ -3,8 +3,8 @@ use Rattle.redo_bundle.specs.declared.faults.BundleFault.{BundleFault}
 use Rattle.redo_bundle.specs.declared.faults.BundleFault.TheVariants as bundle
 use Rattle.redo_bundle.specs.declared.faults.WriteFault.{WriteFault}
 use Rattle.redo_bundle.specs.declared.faults.WriteFault.TheVariants as write
-use Rattle.redo_run.specs.declared.run_fault.RunFault.{RunFault}
-use Rattle.redo_run.specs.declared.run_fault.RunFault.TheVariants as build
+use Rattle.redo_core.specs.declared.opening.OpenFault.{OpenFault as RunFault}
+use Rattle.redo_core.specs.declared.opening.OpenFault.TheVariants as build
 use Rattle.redo_run.specs.declared.fault.RunIoFault.{RunIoFault}
 use Rattle.redo_run.specs.declared.fault.RunIoFault.TheVariants as run
 

@@ -5,7 +5,6 @@ pub mod Exits
 pub mod Faults
 pub mod Jobs
 pub mod Picks
-pub mod RunFaults
 pub mod Runs
 pub mod Skipping
 pub mod Storing

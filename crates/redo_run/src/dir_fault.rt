@@ -6,8 +6,8 @@ ghost use Rattle.redo_run.specs.DirFaults.{of_left as left_fault};
 use crate::RunFault;
 use redo_book::BookFault;
 use redo_bundle::Broken;
-use redo_dir::{JournalFault, LoadFault, StoreFault};
-use std::alloc::{AllocError, AllocFailed};
+use redo_dir::{JournalFault, StoreFault};
+use std::alloc::AllocError;
 use std::io::ErrorKind;
 use thiserror::Error;
 
@@ -47,16 +47,6 @@ impl From<AllocError> for RunDirFault {
     }
 }
 
-impl<T: Drop> From<AllocFailed<T>> for RunDirFault {
-    ghost use Rattle.redo_run.specs.declared.dir_fault.RunDirFault.TheVariants.{Memory};
-
-    ghost from_gives = { λ _ fault. fault ≡ Memory };
-
-    fn from(_error: AllocFailed<T>) -> RunDirFault {
-        RunDirFault::Memory
-    }
-}
-
 impl From<Broken> for RunDirFault {
     ghost use Rattle.redo_run.specs.declared.dir_fault.RunDirFault.TheVariants.{Device};
 
@@ -64,20 +54,6 @@ impl From<Broken> for RunDirFault {
 
     fn from(_error: Broken) -> RunDirFault {
         RunDirFault::Device
-    }
-}
-
-/// Want of memory in the load is that of the run.
-impl From<LoadFault> for RunDirFault {
-    ghost use Rattle.redo_run.specs.DirFaults.{of_load};
-
-    ghost from_gives = { λ error fault. fault ≡ of_load error };
-
-    fn from(error: LoadFault) -> RunDirFault {
-        match error {
-            LoadFault::Device(_, _) => RunDirFault::Load,
-            LoadFault::Memory => RunDirFault::Memory,
-        }
     }
 }
 
@@ -95,34 +71,19 @@ impl From<RunFault> for RunDirFault {
     }
 }
 
+/// A tree's book is refused for the run as it is for a build.
 impl From<BookFault> for RunDirFault {
-    ghost use Rattle.redo_run.specs.DirFaults.{of_past};
+    ghost use Rattle.redo_core.specs.Faults.{past_fault_of};
+    ghost use Rattle.redo_run.specs.DirFaults.{of_run};
 
-    ghost from_gives = { λ error fault. fault ≡ of_past error };
+    ghost from_gives = { λ error fault. fault ≡ of_run (past_fault_of error) };
 
     fn from(error: BookFault) -> RunDirFault {
-        match error {
-            BookFault::Line(line) => RunDirFault::Book(line),
-            BookFault::Memory => RunDirFault::Memory,
-        }
+        RunDirFault::from(RunFault::from(error))
     }
 }
 
 /// Want of memory in the store is that of the run.
-impl From<StoreFault> for RunDirFault {
-    ghost use Rattle.redo_run.specs.DirFaults.{of_store};
-
-    ghost from_gives = { λ error fault. fault ≡ of_store error };
-
-    fn from(error: StoreFault) -> RunDirFault {
-        match error {
-            StoreFault::Device(place, _) | StoreFault::Name(place) => RunDirFault::Store(place),
-            StoreFault::Memory(_) => RunDirFault::Memory,
-        }
-    }
-}
-
-/// The same where files are stored by a journal.
 impl From<JournalFault> for RunDirFault {
     ghost use Rattle.redo_run.specs.DirFaults.{of_journal_fault};
 
@@ -132,7 +93,10 @@ impl From<JournalFault> for RunDirFault {
         match error {
             JournalFault::Journal(ErrorKind::OutOfMemory) => RunDirFault::Memory,
             JournalFault::Journal(_) => RunDirFault::Journal,
-            JournalFault::File(fault) => RunDirFault::from(fault),
+            JournalFault::File(StoreFault::Device(place, _) | StoreFault::Name(place)) => {
+                RunDirFault::Store(place)
+            }
+            JournalFault::File(StoreFault::Memory(_)) => RunDirFault::Memory,
         }
     }
 }

@@ -25,7 +25,7 @@ use redo_path::Path;
 use redo_report::{Report, write_report};
 use redo_tree::Tree;
 use redo_which::lookup::search;
-use std::alloc::Global;
+use std::alloc::{AllocError, Global};
 use std::io::ErrorKind;
 use std::marker::Brand;
 use std::sync::{Arc, Wait};
@@ -45,14 +45,17 @@ pub struct DirRun {
     pub report: Report,
 }
 
-/// The fault of a directory that can't be read. The cause names what can't.
+/// The fault of a directory that can't be read. The cause names what can't. Want of memory in the load is that of the run.
 fn unread(cause: &mut Cause, fault: LoadFault) -> RunDirFault
     ensures { result ≡ of_load fault }
 {
-    if let LoadFault::Device(path, kind) = &fault {
-        cause.note(path, Said::System(*kind));
+    match fault {
+        LoadFault::Device(path, kind) => {
+            cause.note(&path, Said::System(kind));
+            RunDirFault::Load
+        }
+        LoadFault::Memory => RunDirFault::Memory,
     }
-    RunDirFault::from(fault)
 }
 
 /// Whether something stands at a path that is no file of the tree: a link, say.
@@ -194,6 +197,13 @@ struct OfMended {
     built: Built,
 }
 
+/// A tree that is shared from here on.
+fn shared(alloc: Global, tree: Tree) -> Result<Arc<Tree>, AllocError>
+    ensures { IfOk result (λ shared. arc_value shared ≡ tree) }
+{
+    Ok(Arc::new(alloc, tree)?)
+}
+
 /// Builds the targets of a mended tree without the files that are to be taken back.
 fn build_mended<H: Threads + Wait + Sync, O: Observer>(
     host: &mut Host<'_, H, O>,
@@ -214,7 +224,7 @@ fn build_mended<H: Threads + Wait + Sync, O: Observer>(
     }
     let tree = mended.without(host.alloc(), &options.taken)?;
     let built = build(host, tree, options)?;
-    let mended = Arc::new(host.alloc(), mended)?;
+    let mended = shared(host.alloc(), mended)?;
     Ok(OfMended { mended, built })
 }
 

@@ -4,7 +4,7 @@ ghost use Rattle.std.specs.Prelude.{◌≡◌};
 
 use crate::RunFault;
 use redo_bundle::{Broken, BundleFault, WriteFault};
-use std::alloc::{AllocError, AllocFailed};
+use std::alloc::AllocError;
 use thiserror::Error;
 
 /// Why a run over a bundle has no result.
@@ -29,16 +29,6 @@ impl From<AllocError> for RunIoFault {
     ghost from_gives = { λ _ fault. fault ≡ Memory };
 
     fn from(_error: AllocError) -> RunIoFault {
-        RunIoFault::Memory
-    }
-}
-
-impl<T: Drop> From<AllocFailed<T>> for RunIoFault {
-    ghost use Rattle.redo_run.specs.declared.fault.RunIoFault.TheVariants.{Memory};
-
-    ghost from_gives = { λ _ fault. fault ≡ Memory };
-
-    fn from(_error: AllocFailed<T>) -> RunIoFault {
         RunIoFault::Memory
     }
 }

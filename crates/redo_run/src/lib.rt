@@ -11,7 +11,7 @@
 //!   `pace`: which jobs are worth one; `of_build`: what they send each other; `ended`: what is left once they have ended;
 //!   `host`: what a run is lent; `observer`: who is told of each job; `gate`: an observer that lets each job pass a gate;
 //!   `picks`: a build in a given order;
-//! - `run_fault`: why a build has no report; `exit`: whether every requested path is a source or built;
+//! - [`RunFault`]: why a build has no report; `exit`: whether every requested path is a source or built;
 //! - `laws`: laws of runs, as contracts of functions that do nothing;
 //! - `bundle`: the two calls over bundles; `options` and `fault`: what they take and refuse; `directory` and
 //!   `dir_fault`: the same over a directory; `storing`: what is stored there; `request` and `candidates`: what both share.
@@ -39,7 +39,6 @@ mod picks;
 mod pool;
 mod request;
 mod right;
-mod run_fault;
 mod storing;
 mod workers;
 
@@ -56,7 +55,7 @@ pub use of_build::{BuildBrand, JobOf};
 pub use one::build_one;
 pub use options::Options;
 pub use picks::{Pick, drive};
+pub use redo_core::opening::OpenFault as RunFault;
 pub use request::{DEFAULT_TARGET, requested};
-pub use run_fault::RunFault;
 pub use storing::is_unchanged;
 pub use workers::build_many;

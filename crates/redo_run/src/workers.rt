@@ -16,6 +16,7 @@ ghost use Rattle.redo_sync.specs.Relay.{SharesOut, taken_by};
 ghost use Rattle.redo_run.specs.Skipping.{IsSoundOn, IsUnsafeOn};
 ghost use Rattle.redo_run.specs.inside.Workers.{AreOtherTakers, IsAnswerTo, IsBuildOf, NeedsMany};
 
+use crate::RunFault;
 use crate::crew::Shared;
 use crate::ended::{EndedBuild, hand_out};
 use crate::host::Host;
@@ -25,7 +26,6 @@ use crate::of_build::{BuildBrand, JobOf};
 use crate::owner::{Owner, never, own};
 use crate::pace::Pace;
 use crate::pool::Pool;
-use crate::run_fault::RunFault;
 use redo_build::laws::counts_tell;
 use redo_core::board::{Board, Stop};
 use redo_core::laws::what_was_taken;

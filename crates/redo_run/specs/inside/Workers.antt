@@ -14,8 +14,8 @@ use Rattle.redo_step.specs.Limits.{LimitsView}
 use Rattle.redo_sync.specs.Relay.{Pair, RelayId, Shares, Source, Taker}
 use Rattle.redo_tree.specs.Tree.{Tree}
 use Rattle.redo_run.specs.Skipping.{IsSoundOn, IsUnsafeOn}
-use Rattle.redo_run.specs.declared.run_fault.RunFault.{RunFault}
-use Rattle.redo_run.specs.declared.run_fault.RunFault.TheVariants as faults
+use Rattle.redo_core.specs.declared.opening.OpenFault.{OpenFault as RunFault}
+use Rattle.redo_core.specs.declared.opening.OpenFault.TheVariants as faults
 
 -- the source is of the same relay, with as many takers
 abbrev pub IsSameSource : Source → Source → Type 0

@@ -4,7 +4,7 @@ use Rattle.redo_rules.specs.Results.{IsOfTree, IsRefused, IsResultOn, NeedsTooMa
 use Rattle.redo_run.specs.Runs.{request_of}
 use Rattle.redo_run.specs.Skipping.{IsSoundOn, IsUnsafeOn}
 use Rattle.redo_run.specs.declared.bundle.BundleRun.{BundleRun}
-use Rattle.redo_run.specs.declared.run_fault.RunFault.TheVariants as build
+use Rattle.redo_core.specs.declared.opening.OpenFault.TheVariants as build
 use Rattle.redo_tree.specs.Tree.{Tree}
 use Rattle.redo_run.proofs.ToldLemmas.{device_by_write, explains_build, explains_write, no_memory_by_write, no_read_by_write}
 use Rattle.redo_run.proofs.ToldLemmas.{nothing_told, reports, untouched_by_write}

@@ -4,7 +4,7 @@ use Rattle.redo_report.specs.declared.report.Report.{Report}
 use Rattle.redo_rules.specs.Results.{IsOfTree, IsResult, IsResultOn, NeedsTooMany}
 use Rattle.redo_run.specs.Runs.{request_of}
 use Rattle.redo_run.specs.Skipping.{IsSoundOn, IsUnsafeOn}
-use Rattle.redo_run.specs.declared.run_fault.RunFault.TheVariants as faults
+use Rattle.redo_core.specs.declared.opening.OpenFault.TheVariants as faults
 use Rattle.redo_tree.specs.Tree.{Tree}
 use Rattle.redo_run.proofs.ToldLemmas.{built, unbuilt_by}
 use Rattle.redo_run.proofs.directory.build.Goals as goal

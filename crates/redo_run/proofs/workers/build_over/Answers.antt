@@ -1,6 +1,6 @@
 use Rattle.std.proofs.Common.{rules, ◌≡◌, ℕ, List, Err, ap, sym, ◌∙◌}
 use Rattle.redo_rules.specs.Results.{IsGiven, IsResultOn, NeedsTooMany}
-use Rattle.redo_run.specs.declared.run_fault.RunFault.TheVariants as faults
+use Rattle.redo_core.specs.declared.opening.OpenFault.TheVariants as faults
 use Rattle.redo_step.specs.Limits.{LimitsView}
 use Rattle.redo_tree.specs.Tree.{IsTree, Tree}
 use Rattle.redo_run.proofs.OpenedLemmas.{of_others, of_these, runs, stopped_at_limit}
