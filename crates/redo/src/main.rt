@@ -145,12 +145,12 @@ where
 {
     match lock_dir(rt, alloc, dir) {
         Ok(lock) => Ok(lock),
-        Err(fault) => {
-            if let LockFault::Device(kind) = fault {
-                cause.said = Some(Said::System(kind));
-            }
-            Err(Fault::from(fault))
+        Err(LockFault::Busy) => Err(Fault::Busy),
+        Err(LockFault::Device(kind)) => {
+            cause.said = Some(Said::System(kind));
+            Err(Fault::Directory)
         }
+        Err(LockFault::Memory) => Err(Fault::Memory),
     }
 }
 

@@ -5,7 +5,7 @@ use crate::{buffered, flush, note_passed};
 use redo_bundle::Plain;
 use redo_dir::SystemDir;
 use redo_line::Packing;
-use redo_pack::pack;
+use redo_pack::{PackFault, pack};
 use redo_run::{Cause, load};
 use redo_tree::Tree;
 use std::alloc::Global;
@@ -36,7 +36,9 @@ fn print<H: Runtime>(rt: &H, alloc: Global, tree: &Tree) -> Result<(), Fault> {
     let mut writer = Plain::new(buffered(alloc, io::writer(rt))?);
     let outcome = match pack(alloc, &mut writer, tree) {
         Ok(()) => flush(&mut writer.stream),
-        Err(fault) => Err(Fault::from(fault)),
+        // A file that is too large for a bundle can't be written into one.
+        Err(PackFault::TooLarge(_) | PackFault::Device) => Err(Fault::Output),
+        Err(PackFault::Memory) => Err(Fault::Memory),
     };
     // After a failed write the rest isn't tried again, as it would be if the buffer were dropped.
     let (_out, _unwritten) = writer.stream.into_parts();

@@ -2,9 +2,7 @@
 
 use redo_book::BookFault;
 use redo_bundle::{Broken, BundleFault};
-use redo_dir::LockFault;
 use redo_line::status::{FAILED, GOOD, INPUT, MEMORY, OUTPUT, TOO_MANY};
-use redo_pack::PackFault;
 use redo_run::{RunDirFault, RunIoFault};
 use std::alloc::AllocError;
 use std::fmt;
@@ -73,16 +71,6 @@ impl From<BookFault> for Fault {
     }
 }
 
-/// A file that is too large for a bundle can't be written into one.
-impl From<PackFault> for Fault {
-    fn from(fault: PackFault) -> Fault {
-        match fault {
-            PackFault::TooLarge(_) | PackFault::Device => Fault::Output,
-            PackFault::Memory => Fault::Memory,
-        }
-    }
-}
-
 impl From<RunIoFault> for Fault {
     fn from(fault: RunIoFault) -> Fault {
         match fault {
@@ -106,16 +94,6 @@ impl From<RunDirFault> for Fault {
             RunDirFault::Store(_) => Fault::Unstored,
             RunDirFault::Device => Fault::Output,
             RunDirFault::Memory => Fault::Memory,
-        }
-    }
-}
-
-impl From<LockFault> for Fault {
-    fn from(fault: LockFault) -> Fault {
-        match fault {
-            LockFault::Busy => Fault::Busy,
-            LockFault::Device(_) => Fault::Directory,
-            LockFault::Memory => Fault::Memory,
         }
     }
 }
