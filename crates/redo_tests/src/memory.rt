@@ -2,6 +2,7 @@
 //! one in each run.
 
 use crate::pieces::{answer, counts, first_piece};
+use crate::relay::Ticket;
 use crate::trees::{
     DIAMOND, DIAMOND_REPORT, REFUSED_BOOK, RING, RING_REPORT, built_by, host_of, limits_of,
     paths_of, tree_of,
@@ -205,25 +206,6 @@ fn a_refusal_ends_one_build_alone(rt: HostRuntime) -> Result<(), Fail> {
     assert!(rt; one.is_some() || other.is_some());
     assert!(rt; is_report(&one) && is_report(&other));
     Ok(())
-}
-
-/// A job that is nothing but its target and turn.
-#[derive(Drop)]
-struct Ticket {
-    target: Path,
-    turn: u64,
-}
-
-impl Numbered for Ticket {
-    ghost number = { λ t. (t.target, t.turn) };
-
-    fn target(&self) -> &Path {
-        &self.target
-    }
-
-    fn turn(&self) -> u64 {
-        self.turn
-    }
 }
 
 /// How many jobs are given: the queue grows twice on the way.

@@ -20,9 +20,9 @@ const MOST_TRIES: u64 = 1_000_000;
 
 /// A job that is nothing but its target and turn.
 #[derive(Drop)]
-struct Ticket {
-    target: Path,
-    turn: u64,
+pub(crate) struct Ticket {
+    pub(crate) target: Path,
+    pub(crate) turn: u64,
 }
 
 impl Numbered for Ticket {
