@@ -1,17 +1,24 @@
 //! Calls that no run makes, or only behind others, with ample memory.
 
 use crate::memory_dir::MemoryDir;
-use crate::trees::{limits_of, paths_of, tree_of};
+use crate::trees::{built_by, limits_of, paths_of, tree_of};
+use redo_core::board::Board;
+use redo_core::permit::Permit;
 use redo_dir::{WorkDir, Writers, load_dir, store_files};
 use redo_path::Path;
 use redo_record::Outcome;
+use redo_report::report_text;
+use redo_run::{Gate, Gated, Host, NoGate};
 use redo_script::parse;
 use redo_step::{Answers, Job, JobInputs, Parsed, Step};
 use redo_tree::{Content, Kind, Tree};
 use redo_which::Found;
 use redo_which::lookup::{candidates, find, search};
 use std::alloc::{AllocError, Global};
+use std::marker::Brand;
 use std::sync::Arc;
+use std::sync::atomic::AtomicU64;
+use std::sync::atomic::Ordering::SeqCst;
 use std::test::Fail;
 
 /// A rule for names that end in `.x`.
@@ -111,5 +118,112 @@ fn a_file_is_stored_in_a_directory_that_was_read(rt: HostRuntime) -> Result<(), 
     let writers = Writers { rt: &rt, most: 1 };
     store_files(&writers, &mut dir, alloc, &tree, &[file])?;
     assert!(rt; passed == 0 && dir.done.len() == 2);
+    Ok(())
+}
+
+#[test]
+fn ready_targets_stand_in_a_queue(rt: HostRuntime) -> Result<(), Fail> {
+    let alloc = rt.alloc();
+    let tree = Arc::new(alloc, tree_of(alloc, RULE)?)?;
+    let mut permit = Permit::new(&rt, alloc);
+    let mut board = Board::open(
+        &mut permit,
+        tree,
+        &paths_of(alloc, "b.x a.x")?,
+        limits_of(2)?,
+    )?;
+    assert_eq!(rt; board.ready(), 2);
+    assert!(rt; board.ready_at(0).text() == b"b.x".as_slice());
+    assert!(rt; board.ready_at(1).text() == b"a.x".as_slice());
+    let work = board.take(0)?;
+    assert!(rt; work.target().text() == b"b.x".as_slice());
+    assert_eq!(rt; board.ready(), 1);
+    assert!(rt; board.ready_at(0).text() == b"a.x".as_slice());
+    Ok(())
+}
+
+/// `a` asks for `b`, and stops once.
+const ASKING: &str = "file 16 a.do\nredo-ifchange b\n\nfile 7 b.do\necho b\n\nend\n";
+
+/// The report of `a`, without its files.
+const ASKING_REPORT: &str = "built none a\ndep change a.do\ndep change b\n\
+    built 2 b\ndep change b.do\nbegun a\nbegun b\nend\n";
+
+/// Counts how often the script of `a` passes before and after it has stopped, that of `b`, and anything else.
+#[derive(Drop)]
+struct Counts {
+    stops: AtomicU64,
+    goes_on: AtomicU64,
+    asked: AtomicU64,
+    strange: AtomicU64,
+}
+
+impl Gate for Counts {
+    fn enter(&self, target: &Path, turn: u64) {
+        let of_a = target.text() == b"a".as_slice();
+        let of_b = target.text() == b"b".as_slice();
+        let count = if of_a && turn == 0 {
+            &self.stops
+        } else if of_a && turn == 1 {
+            &self.goes_on
+        } else if of_b && turn == 0 {
+            &self.asked
+        } else {
+            &self.strange
+        };
+        count.fetch_add(1, SeqCst);
+    }
+}
+
+#[test]
+fn each_job_passes_the_gate(rt: HostRuntime) -> Result<(), Fail> {
+    let alloc = rt.alloc();
+    let gated = Gated(Counts {
+        stops: AtomicU64::new(0),
+        goes_on: AtomicU64::new(0),
+        asked: AtomicU64::new(0),
+        strange: AtomicU64::new(0),
+    });
+    let mut host = Host {
+        rt: &rt,
+        permit: Permit::new(&rt, alloc),
+        observer: &gated,
+    };
+    let (tree, request) = (tree_of(alloc, ASKING)?, paths_of(alloc, "a")?);
+    let (report, none_left) = built_by::<Brand, HostRuntime, Gated<Counts>>(
+        &mut host,
+        tree,
+        &request,
+        limits_of(2)?,
+        2,
+    )?;
+    let text = report_text(alloc, &report, false)?;
+    assert!(rt; none_left && text.as_slice() == ASKING_REPORT.as_bytes());
+    let Gated(counts) = &gated;
+    assert_eq!(rt; counts.stops.load(SeqCst), 1);
+    assert_eq!(rt; counts.goes_on.load(SeqCst), 1);
+    assert_eq!(rt; counts.asked.load(SeqCst), 1);
+    assert_eq!(rt; counts.strange.load(SeqCst), 0);
+    Ok(())
+}
+
+#[test]
+fn no_gate_holds_up_nobody(rt: HostRuntime) -> Result<(), Fail> {
+    let alloc = rt.alloc();
+    let mut host = Host {
+        rt: &rt,
+        permit: Permit::new(&rt, alloc),
+        observer: &Gated(NoGate),
+    };
+    let (tree, request) = (tree_of(alloc, ASKING)?, paths_of(alloc, "a")?);
+    let (report, none_left) = built_by::<Brand, HostRuntime, Gated<NoGate>>(
+        &mut host,
+        tree,
+        &request,
+        limits_of(2)?,
+        2,
+    )?;
+    let text = report_text(alloc, &report, false)?;
+    assert!(rt; none_left && text.as_slice() == ASKING_REPORT.as_bytes());
     Ok(())
 }

@@ -1,0 +1,5 @@
+use Rattle.redo_tests.proofs.surface.no_gate_holds_up_nobody.Given as goal
+
+-- the build is that of the tree
+abbrev pub ghosts-built_by : goal.ghosts-built_by
+ghosts-built_by g a = record { tree = a.tree; request = a.request.now; limits = a.limits }
