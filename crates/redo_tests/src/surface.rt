@@ -208,7 +208,7 @@ fn each_job_passes_the_gate(rt: HostRuntime) -> Result<(), Fail> {
 }
 
 #[test]
-fn no_gate_holds_up_nobody(rt: HostRuntime) -> Result<(), Fail> {
+fn no_gate_lets_all_pass(rt: HostRuntime) -> Result<(), Fail> {
     let alloc = rt.alloc();
     let mut host = Host {
         rt: &rt,
