@@ -35,10 +35,6 @@ does_more top access log calls steps more d part = record {
   each = parts-append top access [] d.parts ((calls, more) ∷ []) d.each (subst (λ b. IsPart top access b calls more) (sym d.done) part, tt);
 }
 
--- none was called so far
-pub none_done : {C : Type 0} (after : C → List Call → Type 0) (top : List ℕ) (access : Access) (now : C) → after now [] → HasDone after top access now []
-none_done after top access now h = ∣ ([], h, λ e. refl, record { parts = []; calls = refl; done = refl; each = tt }) ∣₁
-
 -- the same steps, told otherwise
 pub told_same : {C : Type 0} (after : C → List Call → Type 0) (top : List ℕ) (access : Access) (now : C) (steps same : List Step) → HasDone after top access now steps → same ≡ steps → HasDone after top access now same
 told_same after top access now steps same h e = subst (HasDone after top access now) (sym e) h
@@ -67,10 +63,6 @@ follows_both after old mid new first next f n log h = subst (after new) (append_
 -- and then none that was answered well
 pub follows_kept : {C : Type 0} (after : C → List Call → Type 0) (old mid new : C) (first : List Call) → Follows after old first mid → Keeps after mid new → Follows after old first new
 follows_kept after old mid new first f k log h = k (log ++ first) (f log h)
-
--- none was called
-pub follows_none : {C : Type 0} (after : C → List Call → Type 0) (now : C) → Follows after now [] now
-follows_none after now log h = subst (after now) (sym (append-nil log)) h
 
 -- a change that was pushed where there was room
 pub noted : {E : Type 0} (r : Result (Unit {0}) E) (old new : List Change) (change : Change) → new ≡ (if is_ok r then old ++ change ∷ [] else old) → IsOk r → steps_of new ≡ steps_of old ++ step_of change ∷ []

@@ -52,6 +52,10 @@ is_waited_for (Some InvalidInput) = true
 is_waited_for (Some Unsupported) = true
 is_waited_for (Some kind) = false
 
+-- whether a file was waited for before it gets this name: each in a run that waits, and in any run the book
+abbrev pub IsWaitedAs : Access → List ℕ → Bool → Type 0
+IsWaitedAs access path synced = (access ≡ StoreSynced → synced ≡ true) × (path ≡ book_path → synced ≡ true)
+
 -- a directory whose names were waited for, with the answer
 abbrev pub Wait : Type 0
 Wait = List ℕ × Option ErrorKind
@@ -96,9 +100,9 @@ IsStep top access before calls (Journals text) =
     (answer : Option ErrorKind) × (is_waited_for answer ≡ true) ×
     (calls ≡ Stays (path_join top journal_path) text true ∷ Syncs (path_join top []) answer ∷ [])
 IsStep top access before calls (Puts path bytes true) =
-    (from : List ℕ) × (synced : Bool) × (path ≡ book_path → synced ≡ true) × (calls ≡ Names from bytes synced (path_join top path) ∷ [])
+    (from : List ℕ) × (synced : Bool) × IsWaitedAs access path synced × (calls ≡ Names from bytes synced (path_join top path) ∷ [])
 IsStep top access before calls (Puts path bytes false) =
-    (from : List ℕ) × (synced : Bool) × (path ≡ book_path → synced ≡ true) × (found : Found) × IsFree found ×
+    (from : List ℕ) × (synced : Bool) × IsWaitedAs access path synced × (found : Found) × IsFree found ×
     (calls ≡ Finds (path_join top path) found ∷ Names from bytes synced (path_join top path) ∷ [])
 IsStep top access before calls Finishes =
     (places : List (List ℕ)) × (waits : List Wait) × AreOnDisk places waits ×

@@ -1,10 +1,8 @@
 -- What a directory answered, and the tree that was made of it.
 use Rattle.std.specs.Prelude.{◌≡◌, ◌≤◌, ◌-◌, ◌^◌, ◌&&◌, ◌⊎◌, not, Bool, ℕ, List, [], ◌∷◌, ◌++◌, IsUtf8, codes, count_by}
 use Rattle.std.specs.Prelude.{filter_map, is_none, length, map, min, option_map, string_bytes, Option, Some, None, Ok, Err}
-use Rattle.std.specs.Fs.{IsDir, IsFile, file_type}
 use Rattle.std.specs.List.{AllByRecursion, AllZip, list_any}
 use Rattle.std.specs.Str.{bytes_eq}
-use Rattle.std.specs.declared.fs.attrs.Metadata.{Metadata}
 use Rattle.std.specs.declared.io.ErrorKind.{ErrorKind}
 use Rattle.std.specs.declared.io.ErrorKind.TheVariants.{InvalidData, OutOfMemory}
 use Rattle.std.specs.declared.alloc.Global.{Global}
@@ -26,12 +24,6 @@ abbrev pub node_seen : Seen → Option Node
 node_seen seen.Directory = Some Directory
 node_seen (seen.File bytes) = Some (File bytes.items)
 node_seen seen.Other = None
-
--- what is seen at a place is what the system calls it: a directory, a file, or neither
-abbrev pub Shows : Metadata → Seen → Type 0
-Shows about seen.Directory = IsDir (file_type about)
-Shows about (seen.File bytes) = IsFile (file_type about)
-Shows about seen.Other = (IsDir (file_type about) → ⊥) × (IsFile (file_type about) → ⊥)
 
 -- a word that names something in a directory: it leads nowhere else
 abbrev pub is_one_name : List ℕ → Bool

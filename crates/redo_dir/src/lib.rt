@@ -4,8 +4,10 @@
 //! name. Both reach the file system through [`WorkDir`] alone, of which [`SystemDir`] is the system's; a test has one
 //! of its own.
 //!
-//! - `work_dir`: what a run asks of the file system; `changes`: what it changed; `system`: a directory of the system;
-//! - `reading`: the bytes of a file of the system;
+//! - `work_dir`: what a run asks of the file system; `changes`: what it changed;
+//! - `system`: a directory of the system; `access`: what a run may do there; `reading`: what a place leads to, and the
+//!   bytes of its file; `new_files`: files that are made; `waiting`: what is asked between two changes;
+//! - `calls`: the single calls that a directory of the system stands on; `system_calls`: those of the system;
 //! - `loading`: a directory as a tree; `places`: which of its names a tree takes in; `looking`: what they lead to;
 //! - `storing`: files that are stored; `batches`: which of them together, and by how many threads; `drafts`: how they are
 //!   written and named;

@@ -3,7 +3,7 @@
 ghost use Rattle.std.specs.Path.{path_buf_bytes, path_join, path_with_file_name};
 ghost use Rattle.std.specs.Prelude.{◌≡◌, ◌≢◌, ◌++◌, ◌∷◌, ◌<◌, [], Bool, IfOk, OnErr, OnOk, false, map, option_copied, string_bytes, true, vec_capacity, vec_len};
 ghost use Rattle.std.specs.List.{AllByRecursion};
-ghost use Rattle.redo_dir.specs.Called.{HasDone, IsCovered, dir_put};
+ghost use Rattle.redo_dir.specs.Called.{HasDone, IsCovered, IsWaitedAs, dir_put};
 ghost use Rattle.redo_dir.specs.Stored.{Finishes, IsNamed, Journals, Puts, Removes, put_of, step_of, steps_of};
 ghost use Rattle.redo_dir.specs.declared.access.Access.TheVariants.{Read, StoreSynced};
 ghost use Rattle.redo_which.specs.Candidates.{book_path, journal_path};
@@ -50,8 +50,9 @@ pub struct SystemDir<'a, C: Calls> {
 pub struct SystemDraft<'a, F: ClosedFile + Drop> {
     path: Path,
     content: Content,
-    /// The directory that it is for.
+    /// The directory that it is for, and what that may do.
     top: &'a str,
+    access: Access,
     /// Where it is to be.
     place: PathBuf,
     /// Where it is, and its name there.
@@ -60,7 +61,7 @@ pub struct SystemDraft<'a, F: ClosedFile + Drop> {
     file: F,
     ghost placed: { path_buf_bytes place ≡ path_join top.now path },
     ghost made: { ∥ F.made file (path_buf_bytes beside) ∥₁ },
-    ghost written: { ∥ ((synced : Bool) × (path ≡ book_path → synced ≡ true) × F.holds file (path_buf_bytes beside) content synced) ∥₁ },
+    ghost written: { ∥ ((synced : Bool) × IsWaitedAs access path synced × F.holds file (path_buf_bytes beside) content synced) ∥₁ },
 }
 
 impl<F: ClosedFile + Drop> Drafted for SystemDraft<'_, F> {
@@ -180,7 +181,7 @@ impl<'a, C: Calls> SystemDir<'a, C> {
 
     /// Whether a file is waited for until it is on the disk before it gets this name.
     fn waits_for(&self, path: &Path) -> bool
-        ensures { path.now ≡ book_path → result ≡ true }
+        ensures { IsWaitedAs self.now.access path.now result }
     {
         // A book that was recovered is the only one once the journal is gone.
         self.access == Access::StoreSynced || path.text() == BOOK
@@ -319,6 +320,7 @@ impl<'a, C: Calls> SystemDir<'a, C> {
     /// Gives a draft its name, whatever has it, and notes that.
     fn name_over(&mut self, draft: &SystemDraft<'_, C::Closed>) -> io::Result<()>
         requires top { draft.now.top.now ≡ self.old.top.now }
+        requires access { draft.now.access ≡ self.old.access }
         requires writable { self.old.access ≢ Read }
         ensures stored { OnOk result (steps_of self.new.done.items ≡
             steps_of self.old.done.items ++ Puts draft.now.path draft.now.content true ∷ []) }
@@ -336,6 +338,7 @@ impl<'a, C: Calls> SystemDir<'a, C> {
     /// Gives a draft its name where neither a file nor a directory has it, and notes that.
     fn name_new(&mut self, draft: &SystemDraft<'_, C::Closed>) -> io::Result<()>
         requires top { draft.now.top.now ≡ self.old.top.now }
+        requires access { draft.now.access ≡ self.old.access }
         requires writable { self.old.access ≢ Read }
         ensures stored { OnOk result (steps_of self.new.done.items ≡
             steps_of self.old.done.items ++ Puts draft.now.path draft.now.content false ∷ []) }
@@ -359,6 +362,9 @@ impl<'a, C: Calls> SystemDir<'a, C> {
     {
         self.check_writable()?;
         if draft.top != self.top {
+            return Err(io::Error::from(ErrorKind::InvalidInput));
+        }
+        if draft.access != self.access {
             return Err(io::Error::from(ErrorKind::InvalidInput));
         }
         if over {
@@ -457,6 +463,7 @@ impl<'a, C: Calls> WorkDir for SystemDir<'a, C> {
             path,
             content: kept,
             top: self.top,
+            access: self.access,
             place,
             beside,
             name,

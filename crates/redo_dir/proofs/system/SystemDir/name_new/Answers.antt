@@ -1,9 +1,8 @@
-use Rattle.std.proofs.Common.{rules, ◌≡◌, ◌++◌, ◌∷◌, [], inl, Bool, true, false, ◌∙◌, ap}
+use Rattle.std.proofs.Common.{rules, ◌≡◌, ◌++◌, ◌∷◌, [], inl, Bool, false, ◌∙◌, ap, subst}
 use Rattle.std.proofs.Math.Logic.{∥∥₁_elim, ∥∥₁_prop}
 use Rattle.std.specs.Path.{path_buf_bytes, path_join}
-use Rattle.redo_dir.specs.Called.{Finds, Follows, IsPart, Keeps, Names, IsFree}
+use Rattle.redo_dir.specs.Called.{IsWaitedAs, Finds, Follows, IsPart, Keeps, Names, IsFree}
 use Rattle.redo_dir.specs.Stored.{Puts, steps_of}
-use Rattle.redo_which.specs.Candidates.{book_path}
 use Rattle.redo_dir.proofs.CallLemmas.{told_same, told_more, told_idle, follows_both, follows_kept}
 use Rattle.redo_dir.proofs.system.SystemDir.name_new.Goals as goal
 
@@ -57,10 +56,10 @@ invariant_of-self-2 g c =
     let free : IsFree found = search rules in
     let more : steps_of c.note.new.done.items ≡ steps ++ Puts D.path D.content false ∷ [] = search rules in
     record {
-      told = ∥∥₁_elim D.written ∥∥₁_prop (λ (w : (synced : Bool) × (D.path ≡ book_path → synced ≡ true) × g.C.Closed.ClosedFile.holds D.file beside D.content synced).
+      told = ∥∥₁_elim D.written ∥∥₁_prop (λ (w : (synced : Bool) × IsWaitedAs D.access D.path synced × g.C.Closed.ClosedFile.holds D.file beside D.content synced).
           let calls = Finds (path_buf_bytes D.place) found ∷ Names beside D.content w.0 (path_buf_bytes D.place) ∷ [] in
           let n : Follows A c.check_free.new.calls (Names beside D.content w.0 (path_buf_bytes D.place) ∷ []) c.name.new.self = c.in_ok-name.ensures.named D.content w.0 w.2 in
           let f : Follows A old calls c.name.new.self = follows_both A old c.check_free.new.calls c.name.new.self (Finds (path_buf_bytes D.place) found ∷ []) (Names beside D.content w.0 (path_buf_bytes D.place) ∷ []) c.check_free.ensures.1 n in
-          let part : IsPart top access steps calls (Puts D.path D.content false ∷ []) = (beside, w.0, w.1, found, free, ap (λ p. Finds p found ∷ Names beside D.content w.0 p ∷ []) at) in
+          let part : IsPart top access steps calls (Puts D.path D.content false ∷ []) = (beside, w.0, subst (λ a. IsWaitedAs a D.path w.0) c.requires.access w.1, found, free, ap (λ p. Finds p found ∷ Names beside D.content w.0 p ∷ []) at) in
           told_more A top access old c.name.new.self calls steps (Puts D.path D.content false ∷ []) (steps_of c.note.new.done.items) c.requires.writable c.args.self.now.told f part more);
     }
