@@ -182,10 +182,10 @@ fn unmade(alloc: Global, past: &Past, report: &Report) -> Result<Vec<Path>, Allo
 fn is_ruleless(alloc: Global, past: &Past, made: &BookRecord) -> Result<bool, AllocError>
     ensures { IfOk result (λ answer. answer ≡ has_no_rule past.now (record_of made.now)) }
 {
-    if !is_generated(past.tree(), made) {
+    if has_rule(alloc, past.sources(), &made.target)? {
         return Ok(false);
     }
-    Ok(!has_rule(alloc, past.sources(), &made.target)?)
+    Ok(is_generated(past.tree(), made))
 }
 
 /// The targets of the book whose generated file stays and that no rule makes, in path order.
