@@ -49,9 +49,18 @@ pub(crate) fn show_cause<E: Drop>(rt: &HostRuntime, cause: Result<Option<String>
     }
 }
 
+/// The line that shows the words in the environment. Escapes their unprintable characters.
+fn text_of_flags(alloc: Global, words: &[String]) -> Result<Vec<u8>, AllocError> {
+    let shown = flags::shown(alloc, words)?;
+    let text = format!(in alloc; "redo: {shown}")?;
+    shown_lines(alloc, text.as_bytes())
+}
+
 /// Shows the words in the environment, by which a refusal came.
 pub(crate) fn show_flags(rt: &HostRuntime, alloc: Global, words: &[String]) {
-    show_cause(rt, flags::shown(alloc, words).map(Some));
+    if let Ok(text) = text_of_flags(alloc, words) {
+        say(rt, &text);
+    }
 }
 
 /// Shows why the command line is refused. Returns the exit status.
