@@ -7,6 +7,8 @@ use Rattle.redo_dir.specs.declared.faults.LoadFault.{LoadFault}
 use Rattle.redo_dir.specs.declared.faults.LoadFault.TheVariants as load
 use Rattle.redo_dir.specs.declared.faults.StoreFault.{StoreFault}
 use Rattle.redo_dir.specs.declared.faults.StoreFault.TheVariants as store
+use Rattle.redo_book.specs.declared.faults.BookFault.{BookFault}
+use Rattle.redo_book.specs.declared.faults.BookFault.TheVariants as books
 use Rattle.redo_core.specs.declared.opening.OpenFault.{OpenFault as RunFault}
 use Rattle.redo_core.specs.declared.opening.OpenFault.TheVariants as build
 use Rattle.redo_run.specs.declared.dir_fault.RunDirFault.{RunDirFault}
@@ -20,6 +22,10 @@ abbrev pub of_run : RunFault → RunDirFault
 of_run (build.Book line) = run.Book line
 of_run build.TooMany = run.TooMany
 of_run build.Memory = run.Memory
+
+abbrev pub of_past : BookFault → RunDirFault
+of_past (books.Line line) = run.Book line
+of_past books.Memory = run.Memory
 
 -- what couldn't be cleared away isn't told by its place
 abbrev pub of_left : StoreFault → RunDirFault

@@ -71,15 +71,16 @@ impl From<RunFault> for RunDirFault {
     }
 }
 
-/// A tree's book is refused for the run as it is for a build.
 impl From<BookFault> for RunDirFault {
-    ghost use Rattle.redo_core.specs.Faults.{past_fault_of};
-    ghost use Rattle.redo_run.specs.DirFaults.{of_run};
+    ghost use Rattle.redo_run.specs.DirFaults.{of_past};
 
-    ghost from_gives = { λ error fault. fault ≡ of_run (past_fault_of error) };
+    ghost from_gives = { λ error fault. fault ≡ of_past error };
 
     fn from(error: BookFault) -> RunDirFault {
-        RunDirFault::from(RunFault::from(error))
+        match error {
+            BookFault::Line(line) => RunDirFault::Book(line),
+            BookFault::Memory => RunDirFault::Memory,
+        }
     }
 }
 
