@@ -1,10 +1,10 @@
 -- Items of the new book, and the records that are made of them.
 use Rattle.std.proofs.Common.{◌≡◌, ◌∙◌, ◌<◌, ◌+◌, ◌&&◌, ℕ, zero, suc, Bool, true, false, not, List, [], ◌∷◌, ◌++◌, ap, append-nil, append_assoc, arith, drop, length}
-use Rattle.std.proofs.Common.{map, refl, set, slice_index_or, subst, sym, take}
+use Rattle.std.proofs.Common.{map, refl, slice_index_or, subst, sym, take}
 use Rattle.std.proofs.lemmas.Grind.{flat_map-append}
 use Rattle.std.proofs.lemmas.List.{length-append, map-append, take_more}
 use Rattle.std.specs.Cmp.Lexicographic.{nat_list_cmp_total}
-use Rattle.std.specs.List.{AllByRecursion}
+use Rattle.std.specs.List.{AllByRecursion, insert}
 use Rattle.std.specs.Ordering.{ordering_reverse}
 use Rattle.std.specs.declared.cmp.Ordering.{Ordering}
 use Rattle.std.specs.declared.cmp.Ordering.TheVariants.{Less, Equal, Greater}
@@ -66,16 +66,11 @@ records-more P f xs i x below is h k =
     subst (AllByRecursion P) (sym (ap (map f) (take_more xs i x below) ∙ map-append f (take i xs) (slice_index_or xs i x ∷ [])))
     (AllByRecursion-append P (map f (take i xs)) (f (slice_index_or xs i x) ∷ []) h (subst (λ y. P (f y)) is k, tt))
 
--- a file that was set among others
-pub set-parts : {X : Type 0} (f : X → List ℕ) (xs : List X) (i : ℕ) (x : X) → i < length xs →
-    flat_map f (set xs i x) ≡ (flat_map f (take i xs) ++ f x) ++ flat_map f (drop (i + 1) xs)
-set-parts f [] i x below = absurd (omega (arith, below))
-set-parts f (y ∷ ys) zero x below = refl
-set-parts f (y ∷ ys) (suc i) x below =
-    let e : suc i + 1 ≡ suc (i + 1) = omega arith in
-    rw e (ap (λ t. f y ++ t) (set-parts f ys i x (omega (arith, below)))
-    ∙ sym (append_assoc (f y) (flat_map f (take i ys) ++ f x) (flat_map f (drop (i + 1) ys)))
-    ∙ ap (λ t. t ++ flat_map f (drop (i + 1) ys)) (sym (append_assoc (f y) (flat_map f (take i ys)) (f x))))
+-- a file that was put among others
+pub insert-parts : {X : Type 0} (f : X → List ℕ) (xs : List X) (i : ℕ) (x : X) →
+    flat_map f (insert xs i x) ≡ (flat_map f (take i xs) ++ f x) ++ flat_map f (drop i xs)
+insert-parts f xs i x =
+    flat_map-append f (take i xs) (x ∷ drop i xs) ∙ sym (append_assoc (flat_map f (take i xs)) (f x) (flat_map f (drop i xs)))
 
 -- ---- what was built is no old record that is carried
 

@@ -12,6 +12,7 @@ pub mod NotedLemmas
 pub mod OldLemmas
 pub mod OrderLemmas
 pub mod PastLemmas
+pub mod RoomLemmas
 pub mod RowLemmas
 pub mod SameRowsLemmas
 pub mod WholeLemmas

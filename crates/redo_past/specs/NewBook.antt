@@ -1,5 +1,5 @@
 -- The book that a run leaves.
-use Rattle.std.specs.Prelude.{◌≡◌, ◌≢◌, ◌↔◌, ◌⊎◌, Bool, true, false, ℕ, List, [], Option, Contains}
+use Rattle.std.specs.Prelude.{◌≡◌, ◌≢◌, ◌↔◌, ◌⊎◌, Bool, true, false, ℕ, List, [], Option, All, Contains}
 use Rattle.std.specs.Prelude.{filter, find, option_and_then}
 use Rattle.std.specs.Arc.{arc_value}
 use Rattle.std.specs.BTreeMap.{insert_entry}
@@ -81,3 +81,10 @@ pub record IsResultOf (past : PastView) (report result : Report) : Type 0 where
   pub book : List Record
   pub new : IsNewBook past report.rows.items book
   pub files : result.files.items ≡ with_file report.files.items book_path (text_of (book_lines book))
+
+-- the whole report is this one with this text as that of the new book, and no file of this one has the book's path
+pub record IsWithBook (report : Report) (book : List ℕ) (whole : Report) : Type 0 where
+  pub rows : whole.rows.items ≡ report.rows.items
+  pub begun : whole.begun.items ≡ report.begun.items
+  pub none : All (λ file. file.0 ≢ book_path) report.files.items
+  pub files : whole.files.items ≡ with_file report.files.items book_path book

@@ -1,11 +1,13 @@
 //! The place of the new book among files.
 
-ghost use Rattle.std.specs.Prelude.{◌≡◌, ◌<◌, IfOk, List, ℕ, length, map, slice_set};
+ghost use Rattle.std.specs.Prelude.{◌≡◌, ◌≢◌, ◌≤◌, All, IfOk, List, OnOk, ℕ, length, map};
 ghost use Rattle.std.specs.Cmp.Lexicographic.{slice_cmp};
+ghost use Rattle.std.specs.List.{insert};
 ghost use Rattle.std.specs.List.Sorted.{IsBinarySearchResult, IsSearchInRange};
 ghost use Rattle.std.specs.Ordering.{nat_cmp};
 ghost use Rattle.redo_report.specs.Reports.{AreAscending};
 ghost use Rattle.redo_past.specs.NewBook.{with_file};
+ghost use Rattle.redo_past.specs.inside.Books.{HasPlace};
 
 use redo_path::Path;
 use redo_tree::Content;
@@ -24,25 +26,33 @@ fn search(files: &[(Path, Content)], path: &Path) -> Result<usize, usize>
     )
 }
 
-/// Puts a file at its place in path order, replacing any at its path, and returns its index.
-pub(crate) fn put_file(
-    files: &mut Vec<(Path, Content)>,
-    path: Path,
-    content: Content,
-) -> Result<usize, AllocError>
+/// Takes the file of a path out, if there is one, and returns the index that it had or would have.
+fn take_out(files: &mut Vec<(Path, Content)>, path: &Path) -> usize
     requires { AreAscending (map (λ file. file.0) files.old.items) }
-    ensures within { IfOk result (λ at. at < length files.new.items) }
-    ensures place { IfOk result (λ at. (bytes : List ℕ) →
-        slice_set files.new.items at (path, bytes) ≡ with_file files.old.items path bytes) }
+    ensures within { result ≤ length files.new.items }
+    ensures none { All (λ file. file.0 ≢ path.now) files.new.items }
+    ensures place { (bytes : List ℕ) →
+        insert files.new.items result (path.now, bytes) ≡ with_file files.new.items path.now bytes }
+    ensures others { (bytes : List ℕ) →
+        with_file files.new.items path.now bytes ≡ with_file files.old.items path.now bytes }
 {
-    match search(files, &path) {
+    match search(files, path) {
         Ok(at) => {
-            files[at] = (path, content);
-            Ok(at)
+            let _other = files.remove(at);
+            at
         }
-        Err(at) => {
-            files.insert(at, (path, content))?;
-            Ok(at)
-        }
+        Err(at) => at,
     }
+}
+
+/// Makes a place in path order for a file of this path, the only one of it. Returns its index. There is room for the file.
+pub(crate) fn make_place(files: &mut Vec<(Path, Content)>, path: &Path) -> Result<usize, AllocError>
+    requires { AreAscending (map (λ file. file.0) files.old.items) }
+    ensures place { IfOk result (HasPlace files.new path.now) }
+    ensures others { OnOk result ((bytes : List ℕ) →
+        with_file files.new.items path.now bytes ≡ with_file files.old.items path.now bytes) }
+{
+    let at = take_out(files, path);
+    files.reserve(1)?;
+    Ok(at)
 }

@@ -36,5 +36,5 @@ mod states;
 
 pub use past::Past;
 pub use place::{book_of, book_path, has_book};
-pub use run_report::RunReport;
+pub use run_report::{ReportParts, RunReport};
 pub use standing::{has_rule, has_state, is_free, is_generated, is_intact};

@@ -14,7 +14,7 @@ ghost use Rattle.redo_tree.specs.Tree.{without};
 ghost use Rattle.redo_book.specs.declared.faults.BookFault.TheVariants as faults;
 ghost use Rattle.redo_which.specs.Candidates.{book_path as path_of_book};
 
-use crate::books::put_file;
+use crate::books::make_place;
 use crate::hints::RecordHints;
 use crate::named::named_by;
 use crate::new_book::text_size;
@@ -26,8 +26,8 @@ use crate::standing::is_generated;
 use redo_book::{Book, BookFault};
 use redo_path::Path;
 use redo_report::{Report, Row};
+use redo_tree::Tree;
 use redo_tree::laws::no_other_file_is_taken_out;
-use redo_tree::{Content, Tree};
 use std::alloc::{AllocError, Global};
 use std::marker::Model;
 use std::sync::Arc;
@@ -292,8 +292,8 @@ impl Past {
         }
     }
 
-    /// The report of a run with the new book among its files. The digests of short files that were built are made here,
-    /// four at a time, unless they were made before.
+    /// The report of a run with the new book among its files, in place of any file at its path. The digests of short files
+    /// that were built are made here, four at a time, unless they were made before.
     pub fn with_book(&self, alloc: Global, report: Report) -> Result<RunReport, AllocError>
         requires rows { AreAscending (row_paths report) }
         requires files { AreAscending (map (λ file. file.0) report.files.items) }
@@ -318,8 +318,7 @@ impl Past {
             mut files,
             begun,
         } = report;
-        let empty = Content::new(Vec::new(alloc))?;
-        let at = put_file(&mut files, book_path(alloc)?, empty)?;
+        let at = make_place(&mut files, &book_path(alloc)?)?;
         let report = Report { rows, files, begun };
         let book = BookFile { at, size };
         Ok(RunReport::new(self.share()?, report, numbers, book))

@@ -1,11 +1,12 @@
 //! The report of a run, with the book that it leaves.
 
-ghost use Rattle.std.specs.Prelude.{◌≡◌, ◌<◌, ◌↔◌, IfOk, IsErrOf, false, is_err, length, map, true};
+ghost use Rattle.std.specs.Prelude.{◌≡◌, ◌≤◌, ◌↔◌, IfOk, IsErrOf, List, ℕ, false, is_err, length, map, true};
 ghost use Rattle.redo_bundle.specs.Bundle.{Writes};
 ghost use Rattle.redo_report.specs.ReportText.{file_text, report_text};
 ghost use Rattle.redo_book.specs.Book.{book_lines, text_of};
 ghost use Rattle.redo_which.specs.Candidates.{book_path as path_of_book};
-ghost use Rattle.redo_past.specs.inside.Books.{IsRunReport, record_in, with_book_text, with_new_book};
+ghost use Rattle.redo_past.specs.NewBook.{IsWithBook};
+ghost use Rattle.redo_past.specs.inside.Books.{IsRunReport, record_in, text_with_book, with_new_book};
 
 use crate::Past;
 use crate::items::BookItem;
@@ -26,13 +27,21 @@ use std::thread::Threads;
 /// From so many bytes on, in long sources, digests are worth threads.
 const WORTH_THREADS: usize = 1 << 20;
 
-/// The file of the new book in a report.
+/// The file of the new book, which isn't among those of the report.
 #[derive(Clone, Copy)]
 pub(crate) struct BookFile {
-    /// Its index among the files.
+    /// The index at which it goes among them in path order.
     pub(crate) at: usize,
     /// How many bytes its text has.
     pub(crate) size: usize,
+}
+
+/// A report without the new book, and the book.
+#[derive(Drop)]
+pub struct ReportParts {
+    pub report: Report,
+    /// The text of the new book.
+    pub book: Content,
 }
 
 /// The report of a run with the new book among its files. The book may be long, so its text is made only as it is
@@ -40,7 +49,7 @@ pub(crate) struct BookFile {
 #[derive(Drop)]
 pub struct RunReport {
     past: Past,
-    /// The report, with an empty file in place of the book.
+    /// The report without the book, for which its files have room.
     report: Report,
     /// The paths of its rows, each with the index of its row as its number.
     numbers: PathSet,
@@ -126,8 +135,33 @@ impl RunReport {
         } = self;
         let rows = Rows::new(&report.rows, &numbers);
         let text = new_text(alloc, &past, rows, book.size)?;
-        report.files[book.at] = (book_path(alloc)?, Content::new(text)?);
+        let file = (book_path(alloc)?, Content::new(text)?);
+        report.files.insert(book.at, file)?;
         Ok(report)
+    }
+
+    /// The report without the new book, and the book's text in memory.
+    pub fn into_parts(self, alloc: Global) -> Result<ReportParts, AllocError>
+        ensures { IfOk result (λ parts. IsWithBook parts.report parts.book self) }
+    {
+        let RunReport {
+            past,
+            report,
+            numbers,
+            book,
+        } = self;
+        let rows = Rows::new(&report.rows, &numbers);
+        let text = new_text(alloc, &past, rows, book.size)?;
+        let book = Content::new(text)?;
+        Ok(ReportParts { report, book })
+    }
+
+    /// The report without the new book, whose text isn't made.
+    pub fn without_book(self) -> Report
+        ensures { (book : List ℕ) × IsWithBook result book self }
+    {
+        let RunReport { report, .. } = self;
+        report
     }
 
     /// Writes the report with its files. The text of the new book is written piece by piece, and is never in memory.
@@ -155,18 +189,17 @@ fn write_with_book<W: ByteOut>(
     items: &[BookItem<'_>],
 ) -> Result<(), Broken>
     requires works { W.has_failed out.old ≡ false }
-    requires within { book.at < length report.now.files.items }
+    requires within { book.at ≤ length report.now.files.items }
     requires size { book.size ≡ length (text_of (book_lines (map (record_in states.old) items.now))) }
     ensures writes { Writes (W.held out.old) (W.held out.new) result
-        (report_text (with_book_text report.now book.at
-        (text_of (book_lines (map (record_in states.old) items.now)))) true) }
+        (text_with_book report.now book.at (text_of (book_lines (map (record_in states.old) items.now)))) }
     ensures failed { W.has_failed out.new ≡ is_err result }
 {
     let alloc = *report.rows.allocator();
     write_head(out, report)?;
     write_files(out, &report.files[..book.at])?;
     write_book(out, alloc, book.size, states, items)?;
-    write_files(out, &report.files[book.at + 1..])?;
+    write_files(out, &report.files[book.at..])?;
     write_end(out)
 }
 

@@ -1,21 +1,26 @@
 -- What the new book is made of.
-use Rattle.std.specs.Prelude.{◌≡◌, ◌≢◌, ◌<◌, Bool, true, false, not, ◌&&◌, List, [], ◌∷◌, ◌++◌, ℕ, Option, Some, None}
-use Rattle.std.specs.Prelude.{if◌then◌else◌, filter, filter_map, is_some, length, map}
+use Rattle.std.specs.Prelude.{◌≡◌, ◌≢◌, ◌<◌, ◌≤◌, Bool, true, false, not, ◌&&◌, List, [], ◌∷◌, ◌++◌, ℕ, Option, Some, None}
+use Rattle.std.specs.Prelude.{if◌then◌else◌, All, codes, filter, filter_map, flat_map, is_some, length, map, take}
 use Rattle.std.specs.Cmp.Lexicographic.{slice_cmp}
-use Rattle.std.specs.List.{AllByRecursion}
+use Rattle.std.specs.Global.{Vec}
+use Rattle.std.specs.List.{AllByRecursion, insert}
 use Rattle.std.specs.Ordering.{is_lt, nat_cmp}
-use Rattle.std.specs.Vec.{with_item}
+use Rattle.std.specs.Vec.{vec_capacity, vec_len}
+use Rattle.std.proofs.Common.{refl, subst, sym}
+use Rattle.std.proofs.Math.Nat.{min-le_left}
+use Rattle.std.proofs.lemmas.List.{length-take}
 use Rattle.redo_tree.specs.Tree.{Tree, file_at}
 use Rattle.redo_which.specs.Rule.{found_of, is_rule}
 use Rattle.redo_record.specs.declared.deps.Dep.{Dep}
 use Rattle.redo_book.specs.declared.book.BookEntry.{BookEntry}
 use Rattle.redo_book.specs.Book.{IsEntry, IsRecord, Record, book_lines, entry_line, record_lines, text_of}
 use Rattle.redo_book.specs.Noted.{is_top, noted}
+use Rattle.redo_report.specs.ReportText.{file_text, head_text}
 use Rattle.redo_report.specs.Reports.{AreAscending}
 use Rattle.redo_report.specs.declared.report.Report.{Report}
 use Rattle.redo_report.specs.declared.report.Row.{Row}
 use Rattle.redo_which.specs.Candidates.{book_path}
-use Rattle.redo_past.specs.NewBook.{is_built, notable, record_of_row, row_at, state_after}
+use Rattle.redo_past.specs.NewBook.{is_built, notable, record_of_row, row_at, state_after, with_file}
 use Rattle.redo_past.specs.Past.{PastView}
 use Rattle.redo_past.specs.declared.items.BookItem.{BookItem}
 use Rattle.redo_past.specs.declared.items.BookItem.TheVariants as items
@@ -128,18 +133,48 @@ pub record AreItems (states : StatesView) (list : List BookItem) (records : List
   pub are : map (record_in states) list ≡ records
   pub sound : AllByRecursion IsSound list
 
--- the report with this text as that of the book, which is the file at this index
+-- the first n items are at most n
+pub take-within : {X : Type 0} (n : ℕ) (xs : List X) → length (take n xs) ≤ n
+take-within n xs = subst (λ k. k ≤ n) (sym (length-take n xs)) (min-le_left n (length xs))
+
+-- a vector after an item was put at this index, as far as it has room
+abbrev pub with_more : {X : Type 0} → Vec X → ℕ → X → Vec X
+with_more v i x =
+    let items = take v.cap (insert v.items i x) in
+    record {
+      ptr = v.ptr;
+      len = length items;
+      cap = v.cap;
+      alloc = v.alloc;
+      items = items;
+      ok = (refl, take-within v.cap (insert v.items i x));
+      small = v.small;
+    }
+
+-- the report with this text as that of the book, which is put at this index among the files
 abbrev pub with_book_text : Report → ℕ → List ℕ → Report
 with_book_text report at text =
-    record { rows = report.rows; files = with_item report.files at (book_path, text); begun = report.begun }
+    record { rows = report.rows; files = with_more report.files at (book_path, text); begun = report.begun }
 
 -- the report with the text of the new book
 abbrev pub with_new_book : PastView → Report → ℕ → Report
 with_new_book past report at = with_book_text report at (new_text past report.rows.items)
 
--- the rows are in order and have these paths, the book is one of the files, and its text has exactly n bytes
+-- the text of a report with this text as that of the book, which is put at this index among the files
+abbrev pub text_with_book : Report → ℕ → List ℕ → List ℕ
+text_with_book report at text =
+    head_text report ++ flat_map file_text (insert report.files.items at (book_path, text)) ++ codes "end\n"
+
+-- no file has this path, and there is room for one more, whose place in path order is this index
+pub record HasPlace (files : Vec (List ℕ × List ℕ)) (path : List ℕ) (at : ℕ) : Type 0 where
+  pub none : All (λ file. file.0 ≢ path) files.items
+  pub room : vec_len files < vec_capacity files
+  pub within : at ≤ length files.items
+  pub place : (bytes : List ℕ) → insert files.items at (path, bytes) ≡ with_file files.items path bytes
+
+-- the rows are in order and have these paths, the book has its place among the files, and its text has exactly n bytes
 pub record IsRunReport (past : PastView) (report : Report) (numbers : List (List ℕ)) (at n : ℕ) : Type 0 where
   pub rows : AreRows report.rows.items
   pub numbered : FindsRows numbers report.rows.items
-  pub within : at < length report.files.items
+  pub place : HasPlace report.files book_path at
   pub size : n ≡ length (new_text past report.rows.items)
