@@ -31,6 +31,7 @@ pub(crate) struct After<'a> {
 pub(crate) struct Built<'a> {
     /// The past of the tree that was built.
     pub(crate) past: &'a Past,
+    /// The report without the new book.
     pub(crate) report: &'a Report,
     /// Whether every requested path is a source or built.
     pub(crate) good: bool,

@@ -117,11 +117,7 @@ fn end_over_bundle<H: Runtime>(
         mem::forget(past);
         return Ok(good);
     }
-    let report = match report.into_report(alloc) {
-        Ok(report) => report,
-        Err(_) if after.build.strict => return Err(Fault::Memory),
-        Err(_) => return Ok(good),
-    };
+    let report = report.without_book();
     let built = Built {
         past: &past,
         report: &report,

@@ -13,7 +13,7 @@ use redo_dir::{Lockable, SystemDir};
 use redo_line::{BuildOptions, Dead, Input};
 use redo_past::Past;
 use redo_report::Report;
-use redo_run::{Cause, Exit, Host};
+use redo_run::{BundleRun, Cause, Exit, Host};
 use std::alloc::Global;
 use std::io;
 use std::rt::Runtime;
@@ -54,8 +54,8 @@ where
     host.observer.clear();
     match outcome? {
         Run::OverBundle(run) => {
-            let report = run.report.into_report(alloc)?;
-            let plan = plan_by(alloc, run.exit, &run.past, &report)?;
+            let BundleRun { exit, past, report } = run;
+            let plan = plan_by(alloc, exit, &past, &report.without_book())?;
             Ok(Tried { plan, passed: 0 })
         }
         Run::OverDir(built) => {

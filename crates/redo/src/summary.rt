@@ -3,15 +3,14 @@
 use redo_report::Report;
 use redo_run::is_unchanged;
 use redo_tree::Tree;
-use redo_which::BOOK;
 use std::fmt;
 use std::fmt::{Display, Formatter};
 
-/// How many files came out otherwise than the tree has them, the book aside.
+/// How many files of a report without the new book came out otherwise than the tree has them.
 pub(crate) fn written(report: &Report, tree: &Tree) -> u64 {
     let mut count = 0u64;
     for file in &report.files {
-        if file.0.text() != BOOK && !is_unchanged(tree, file) {
+        if !is_unchanged(tree, file) {
             count = count.saturating_add(1);
         }
     }

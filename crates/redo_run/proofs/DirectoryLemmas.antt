@@ -49,7 +49,7 @@ module _ (lists : List ℕ → List (Option (List ℕ)) → Type 0) (leads : Lis
   unforeseen Memory h = inl refl
   unforeseen _ h = absurd h
 
-  pub undone_fault : (r : Ran lists leads options) (after : List Step) (fault : RunDirFault) → IsPart told (clearing r.loaded r.mended) (storing r.mended (to_store r.mended r.report.files.items)) before after fault → IsFaultOf lists leads refuses told options before after fault
+  pub undone_fault : (r : Ran lists leads options) (after : List Step) (fault : RunDirFault) → IsPart told (clearing r.loaded r.mended) (storing r.mended (to_store r.mended r.report.files.items r.book)) before after fault → IsFaultOf lists leads refuses told options before after fault
   undone_fault r after (Store place) h = (r, h)
   undone_fault r after Journal h = (r, h)
   undone_fault r after Left h = (r, h.0, h.1, h.2)

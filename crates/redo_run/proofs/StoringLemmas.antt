@@ -147,6 +147,6 @@ new_is_stored tree None = refl
 new_is_stored tree (Some n) = refl
 
 -- and so where the tree and the files were read through references
-pub new_is_stored_by : (read reread tree : Tree) (new : Option ToStore) (list files : List (List ℕ × List ℕ)) → option_map view_of new ≡ to_store read list → read ≡ tree → reread ≡ tree → list ≡ files → option_map_or (λ n. steps_to_store reread n.book n.files.items) new [] ≡ storing tree (to_store tree files)
-new_is_stored_by read reread tree new list files e r s l =
-    ap (λ t. option_map_or (λ n. steps_to_store t n.book n.files.items) new []) s ∙ new_is_stored tree new ∙ ap (storing tree) (e ∙ ap (λ t. to_store t list) r ∙ ap (to_store tree) l)
+pub new_is_stored_by : (read reread tree : Tree) (new : Option ToStore) (list files : List (List ℕ × List ℕ)) (book : List ℕ) → option_map view_of new ≡ to_store read list book → read ≡ tree → reread ≡ tree → list ≡ files → option_map_or (λ n. steps_to_store reread n.book n.files.items) new [] ≡ storing tree (to_store tree files book)
+new_is_stored_by read reread tree new list files book e r s l =
+    ap (λ t. option_map_or (λ n. steps_to_store t n.book n.files.items) new []) s ∙ new_is_stored tree new ∙ ap (storing tree) (e ∙ ap (λ t. to_store t list book) r ∙ ap (λ fs. to_store tree fs book) l)

@@ -3,6 +3,7 @@ use Rattle.std.proofs.Common.{rules, ◌≡◌, ◌↔◌, ◌∙◌, [], ◌∷
 use Rattle.std.proofs.Common.{option_map, true, sym, subst, refl}
 use Rattle.std.specs.Prelude.{IfSome, IsSome, Err, Result}
 use Rattle.std.specs.Io.KnownBytes.{Appends}
+use Rattle.redo_past.specs.NewBook.{IsWithBook}
 use Rattle.redo_rules.specs.Results.{IsGiven, IsOfTree, IsRefused, IsResultOn, NeedsTooMany}
 use Rattle.redo_report.specs.ReportText.{report_text}
 use Rattle.redo_report.specs.declared.report.Report.{Report}
@@ -113,11 +114,14 @@ module _ (options : Options) (tree : Tree) (request : List (List ℕ)) (named : 
   unbuilt_by build.Memory book many never = tt
 
   -- a tree was built
-  pub built : (report : Report) (exit : Exit) → (is : IsResultOn tree request options.limits report) →
-      IsSoundOn tree request options.limits report → IsExitOf is.0 exit → IsBuilt tree options report exit
-  built report exit is sound good = record {
+  pub built : (report : Report) (book : List ℕ) (whole : Report) (exit : Exit) → IsWithBook report book whole →
+      (is : IsResultOn tree request options.limits whole) → IsSoundOn tree request options.limits whole →
+      IsExitOf is.0 exit → IsBuilt tree options report book exit
+  built report book whole exit parts is sound good = record {
     given = is.0;
     is_given = moved (λ ps. IsGiven tree ps options.limits is.0) is.1;
+    whole = whole;
+    parts = parts;
     is = is.2;
     sound = sound is.0 is.1;
     good = good;

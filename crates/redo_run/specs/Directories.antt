@@ -6,6 +6,7 @@ use Rattle.std.specs.Io.KnownBytes.{Appends}
 use Rattle.std.specs.declared.io.ErrorKind.{ErrorKind}
 use Rattle.redo_rules.specs.Build.{GivenView}
 use Rattle.redo_rules.specs.Results.{IsGiven, IsOfTree, IsRefused, IsResult, NeedsTooMany as TreeNeedsTooMany}
+use Rattle.redo_past.specs.NewBook.{IsWithBook}
 use Rattle.redo_report.specs.ReportText.{report_text}
 use Rattle.redo_report.specs.declared.report.Report.{Report}
 use Rattle.redo_tree.specs.Tree.{Node, Tree, file_at, without}
@@ -31,12 +32,14 @@ use Rattle.redo_run.specs.Skipping.{IsSoundFor, IsUnsafeOn}
 abbrev pub to_build : Options → Tree → Tree
 to_build options tree = if length options.taken.items == 0 then tree else without tree options.taken.items
 
--- a tree was built, and this is its report
-pub record IsBuilt (tree : Tree) (options : Options) (report : Report) (exit : Exit) : Type 0 where
+-- a tree was built, and its whole report is this one with this text as that of the new book
+pub record IsBuilt (tree : Tree) (options : Options) (report : Report) (book : List ℕ) (exit : Exit) : Type 0 where
   pub given : GivenView
   pub is_given : IsGiven tree (request_in options) options.limits given
-  pub is : IsResult given report
-  pub sound : IsSoundFor given report
+  pub whole : Report
+  pub parts : IsWithBook report book whole
+  pub is : IsResult given whole
+  pub sound : IsSoundFor given whole
   pub good : IsExitOf given exit
 
 -- why a tree isn't built: its book is refused for this line, or it needs too many targets; where keeping is safe, none
@@ -95,13 +98,14 @@ pub record Ran (lists : List ℕ → List (Option (List ℕ)) → Type 0) (leads
   pub mended : Tree
   pub mends : MendsTo loaded mended
   pub report : Report
+  pub book : List ℕ
   pub exit : Exit
-  pub built : IsBuilt (to_build options mended) options report exit
+  pub built : IsBuilt (to_build options mended) options report book exit
 
 -- the steps by which a run over this tree clears away and stores, which was mended to that one, and whose build has this
--- report
-abbrev pub steps_of : Tree → Tree → Report → List Step
-steps_of loaded mended report = clearing loaded mended ++ storing mended (to_store mended report.files.items)
+-- report and a new book of this text
+abbrev pub steps_of : Tree → Tree → Report → List ℕ → List Step
+steps_of loaded mended report book = clearing loaded mended ++ storing mended (to_store mended report.files.items book)
 
 -- A tree was loaded and mended, and built without what is to be taken back; all steps were done by which what a broken-off
 -- run had left is cleared away and the build is stored; and the writer took the report, without the files, and nothing
@@ -112,8 +116,8 @@ pub record ReportsTree (lists : List ℕ → List (Option (List ℕ)) → Type 0
   pub mended : Tree
   pub mends : MendsTo loaded mended
   pub past : IsOfTree (to_build options mended) run.past
-  pub built : IsBuilt (to_build options mended) options run.report run.exit
-  pub done : after ≡ before ++ steps_of loaded mended run.report
+  pub built : IsBuilt (to_build options mended) options run.report run.book run.exit
+  pub done : after ≡ before ++ steps_of loaded mended run.report run.book
   pub written : Appends old new (report_text run.report false)
 
 -- a tree was loaded, and its book is refused for this line, or the mended tree isn't built for this reason, without what
@@ -132,7 +136,7 @@ pub record PreviewsTree (lists : List ℕ → List (Option (List ℕ)) → Type 
   pub mended : Tree
   pub mends : MendsTo loaded mended
   pub past : IsOfTree (to_build options mended) run.past
-  pub built : IsBuilt (to_build options mended) options run.report run.exit
+  pub built : IsBuilt (to_build options mended) options run.report run.book run.exit
   pub written : Appends old new (report_text run.report false)
 
 -- why a run that stores nothing has no report
@@ -152,16 +156,16 @@ IsFaultOf lists leads refuses told options before after (Book n) =
 IsFaultOf lists leads refuses told options before after TooMany =
     Stays lists leads options TooMany × (after ≡ before)
 IsFaultOf lists leads refuses told options before after (Store place) =
-    (r : Ran lists leads options) × StopsAt told (steps_of r.loaded r.mended r.report) before after (length (clearing r.loaded r.mended) + suc place)
+    (r : Ran lists leads options) × StopsAt told (steps_of r.loaded r.mended r.report r.book) before after (length (clearing r.loaded r.mended) + suc place)
 IsFaultOf lists leads refuses told options before after Journal =
-    (r : Ran lists leads options) × StopsAt told (steps_of r.loaded r.mended r.report) before after (length (clearing r.loaded r.mended))
+    (r : Ran lists leads options) × StopsAt told (steps_of r.loaded r.mended r.report r.book) before after (length (clearing r.loaded r.mended))
 IsFaultOf lists leads refuses told options before after Left =
-    (r : Ran lists leads options) × (count : ℕ) × (count < length (clearing r.loaded r.mended)) × StopsAt told (steps_of r.loaded r.mended r.report) before after count
+    (r : Ran lists leads options) × (count : ℕ) × (count < length (clearing r.loaded r.mended)) × StopsAt told (steps_of r.loaded r.mended r.report r.book) before after count
 IsFaultOf lists leads refuses told options before after Device =
-    (r : Ran lists leads options) × (after ≡ before ++ steps_of r.loaded r.mended r.report)
+    (r : Ran lists leads options) × (after ≡ before ++ steps_of r.loaded r.mended r.report r.book)
 IsFaultOf lists leads refuses told options before after Memory =
     (after ≡ before) ⊎
-    ((r : Ran lists leads options) × (count : ℕ) × (after ≡ before ++ take count (steps_of r.loaded r.mended r.report)))
+    ((r : Ran lists leads options) × (count : ℕ) × (after ≡ before ++ take count (steps_of r.loaded r.mended r.report r.book)))
 
 -- a tree was loaded, and the writer took the list of the target's candidates in it, and nothing else
 pub record ListsTree (lists : List ℕ → List (Option (List ℕ)) → Type 0) (leads : List ℕ → Option Node → Type 0) (target : List ℕ) (old new : Option (List ℕ)) (found : Bool) (passed : ℕ) : Type 0 where

@@ -1,6 +1,6 @@
 -- What a run over a directory stores, and the steps by which it does.
-use Rattle.std.specs.Prelude.{◌≡◌, ◌++◌, ◌&&◌, ◌⊎◌, Bool, not, IsUtf8, ℕ, List, [], ◌∷◌, Option, Some, None, bytes_eq, filter}
-use Rattle.std.specs.Prelude.{if◌then◌else◌, is_some, nat_eq, option_and_then, slice_get, take}
+use Rattle.std.specs.Prelude.{◌≡◌, ◌++◌, ◌⊎◌, Bool, not, IsUtf8, ℕ, List, [], ◌∷◌, Option, Some, None, filter}
+use Rattle.std.specs.Prelude.{if◌then◌else◌, is_some, nat_eq, slice_get, take}
 use Rattle.std.specs.Cmp.Lexicographic.{pointwise}
 use Rattle.std.specs.Option.{option_eq, option_map_or}
 use Rattle.std.specs.declared.io.ErrorKind.{ErrorKind}
@@ -14,23 +14,19 @@ use Rattle.redo_mend.specs.Mended.{book_to_put, own_files}
 abbrev pub stands_in : Tree → List ℕ × List ℕ → Bool
 stands_in tree f = option_eq (pointwise nat_eq) (file_at tree f.0) (Some f.1)
 
--- the files but for the book, those that the tree doesn't have as they are
+-- the files that the tree doesn't have as they are
 abbrev pub others_from : Tree → List (List ℕ × List ℕ) → List (List ℕ × List ℕ)
-others_from tree files = filter (λ f. not (bytes_eq f.0 book_path) && not (stands_in tree f)) files
+others_from tree files = filter (λ f. not (stands_in tree f)) files
 
--- the new book among the files of a report
-abbrev pub new_book_in : List (List ℕ × List ℕ) → Option (List ℕ × List ℕ)
-new_book_in files = slice_get (filter (λ f. bytes_eq f.0 book_path) files) 0
+-- this text of a new book and these files; nothing where there is no file and the tree has the book
+abbrev pub if_new : Tree → List ℕ → List (List ℕ × List ℕ) → Option (List ℕ × List (List ℕ × List ℕ))
+if_new tree book [] = if stands_in tree (book_path, book) then None else Some (book, [])
+if_new tree book (f ∷ fs) = Some (book, f ∷ fs)
 
--- this book and these files; nothing where there is no file and the tree has the book
-abbrev pub if_new : Tree → List ℕ × List ℕ → List (List ℕ × List ℕ) → Option (List ℕ × List (List ℕ × List ℕ))
-if_new tree book [] = if stands_in tree book then None else Some (book.1, [])
-if_new tree book (f ∷ fs) = Some (book.1, f ∷ fs)
-
--- what a run stores of the files of a report: the new book's text and the other files that the tree doesn't have as they
--- came out, or nothing where it has all of them
-abbrev pub to_store : Tree → List (List ℕ × List ℕ) → Option (List ℕ × List (List ℕ × List ℕ))
-to_store tree files = option_and_then (λ book. if_new tree book (others_from tree files)) (new_book_in files)
+-- what a run stores of the files of a report and the text of the new book: the text and the files that the tree doesn't
+-- have as they came out, or nothing where it has all of them
+abbrev pub to_store : Tree → List (List ℕ × List ℕ) → List ℕ → Option (List ℕ × List (List ℕ × List ℕ))
+to_store tree files book = if_new tree book (others_from tree files)
 
 -- the steps by which that is stored
 abbrev pub storing : Tree → Option (List ℕ × List (List ℕ × List ℕ)) → List Step

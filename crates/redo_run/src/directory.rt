@@ -20,10 +20,10 @@ use crate::{Cause, Exit, Host, Observer, Options, RunDirFault, Said};
 use redo_bundle::{ByteOut, write_all};
 use redo_dir::{LoadFault, Seen, WorkDir, journal_path, load_dir};
 use redo_mend::{Mended, mend};
-use redo_past::{Past, book_path, has_book};
+use redo_past::{Past, ReportParts, book_path, has_book};
 use redo_path::Path;
 use redo_report::{Report, write_report};
-use redo_tree::Tree;
+use redo_tree::{Content, Tree};
 use redo_which::lookup::search;
 use std::alloc::{AllocError, Global};
 use std::io::ErrorKind;
@@ -41,8 +41,10 @@ pub struct DirRun {
     /// The past of the tree that was built, which the run opened. The tree is as it was loaded, or mended, without the files
     /// that were to be taken back.
     pub past: Past,
-    /// The report, with the files that were built or kept and the new book.
+    /// The report, with the files that were built or kept, but without the new book.
     pub report: Report,
+    /// The text of the new book.
+    pub book: Content,
 }
 
 /// The fault of a directory that can't be read. The cause names what can't. Want of memory in the load is that of the run.
@@ -161,7 +163,10 @@ where
 #[derive(Drop)]
 struct Built {
     past: Past,
+    /// The report without the new book.
     report: Report,
+    /// The text of the new book.
+    book: Content,
     exit: Exit,
 }
 
@@ -172,7 +177,7 @@ fn build<H: Threads + Wait + Sync, O: Observer>(
     options: &Options,
 ) -> Result<Built, RunDirFault>
     requires permit { IsUnused host.old.permit }
-    ensures built { IfOk result (λ built. IsBuilt tree options.now built.report built.exit) }
+    ensures built { IfOk result (λ built. IsBuilt tree options.now built.report built.book built.exit) }
     ensures past { IfOk result (λ built. IsOfTree tree built.past) }
     ensures refused { IfErr result (IsUnbuilt tree options.now) }
 {
@@ -182,10 +187,11 @@ fn build<H: Threads + Wait + Sync, O: Observer>(
     let kept = past.share()?;
     let report = report_over::<Brand, H, O>(host, past, &request, limits, workers)?;
     let exit = exit_after(host.alloc(), &report, &request)?;
-    let report = report.into_report(host.alloc())?;
+    let ReportParts { report, book } = report.into_parts(host.alloc())?;
     Ok(Built {
         past: kept,
         report,
+        book,
         exit,
     })
 }
@@ -214,7 +220,7 @@ fn build_mended<H: Threads + Wait + Sync, O: Observer>(
     ensures mended { IfOk result (λ of. arc_value of.mended ≡ mended) }
     ensures past { IfOk result (λ of. IsOfTree (to_build options.now mended) of.built.past) }
     ensures built { IfOk result (λ of.
-        IsBuilt (to_build options.now mended) options.now of.built.report of.built.exit) }
+        IsBuilt (to_build options.now mended) options.now of.built.report of.built.book of.built.exit) }
     ensures refused { IfErr result (IsUnbuilt (to_build options.now mended) options.now) }
 {
     if options.taken.is_empty() {
@@ -254,8 +260,13 @@ where
     let over = has_book(&tree);
     let Mended { tree, left } = mend(host.rt, host.alloc(), options.workers, tree)?;
     let OfMended { mended, built } = build_mended(host, tree, options)?;
-    let Built { past, report, exit } = built;
-    let new = to_store(host.alloc(), &mended, &report.files)?;
+    let Built {
+        past,
+        report,
+        book,
+        exit,
+    } = built;
+    let new = to_store(host.alloc(), &mended, &report.files, &book)?;
     let plan = Plan {
         left,
         over,
@@ -267,6 +278,7 @@ where
         passed,
         past,
         report,
+        book,
     };
     Ok(Foreseen { run, mended, plan })
 }

@@ -1,7 +1,7 @@
 //! What a run over a directory stores.
 
-ghost use Rattle.std.specs.Prelude.{◌≡◌, ◌++◌, bytes_eq, filter, IfErr, IfOk, OnOk, option_map};
-ghost use Rattle.redo_run.specs.Storing.{if_new, others_from, stands_in, to_store as what_to_store};
+ghost use Rattle.std.specs.Prelude.{◌≡◌, ◌++◌, IfErr, IfOk, OnOk, option_map};
+ghost use Rattle.redo_run.specs.Storing.{others_from, stands_in, to_store as what_to_store};
 ghost use Rattle.redo_run.specs.inside.Storing.{IsPart, LeavesPart, StoresPart, steps_left, steps_new, view_of};
 ghost use Rattle.redo_which.specs.Candidates.{book_path};
 
@@ -14,13 +14,6 @@ use redo_which::BOOK;
 use std::alloc::{AllocError, Global};
 use std::thread::Threads;
 
-/// Whether it is the path of the book.
-fn is_book(path: &Path) -> bool
-    ensures { result ≡ bytes_eq path.now book_path }
-{
-    path.text() == BOOK
-}
-
 /// Whether the tree has the file as it is. The bytes of one that was kept are those of the tree's, not a copy.
 pub fn is_unchanged(tree: &Tree, file: &(Path, Content)) -> bool
     ensures { result ≡ stands_in tree.now file.now }
@@ -31,7 +24,17 @@ pub fn is_unchanged(tree: &Tree, file: &(Path, Content)) -> bool
     }
 }
 
-/// The files but for the book, those that the tree doesn't have as they are: so what stands is not stored again.
+/// Whether the tree has this text as that of its book.
+fn has_same_book(tree: &Tree, book: &Content) -> bool
+    ensures { result ≡ stands_in tree.now (book_path, book.now) }
+{
+    match tree.file_by_text(BOOK) {
+        Some(text) => text == book.bytes(),
+        None => false,
+    }
+}
+
+/// The files that the tree doesn't have as they are: so what stands is not stored again.
 fn others(
     alloc: Global,
     tree: &Tree,
@@ -41,7 +44,7 @@ fn others(
 {
     let mut others = Vec::new(alloc);
     for file in files {
-        if !is_book(&file.0) && !is_unchanged(tree, file) {
+        if !is_unchanged(tree, file) {
             let (path, content) = file;
             others.push((path.clone()?, content.clone()?))?;
         }
@@ -49,50 +52,22 @@ fn others(
     Ok(others)
 }
 
-/// The books among files.
-fn books(alloc: Global, files: &[(Path, Content)]) -> Result<Vec<(Path, Content)>, AllocError>
-    ensures { IfOk result (λ books. books.items ≡ filter (λ f. bytes_eq f.0 book_path) files.now) }
-{
-    let mut books = Vec::new(alloc);
-    for file in files {
-        if is_book(&file.0) {
-            let (path, content) = file;
-            books.push((path.clone()?, content.clone()?))?;
-        }
-    }
-    Ok(books)
-}
-
-/// This book and these files to be stored; none where there is no file and the tree has the book.
-fn if_any(
-    tree: &Tree,
-    book: &(Path, Content),
-    files: Vec<(Path, Content)>,
-) -> Result<Option<ToStore>, AllocError>
-    ensures { IfOk result (λ new. option_map view_of new ≡ if_new tree.now book.now files.items) }
-{
-    if files.is_empty() && is_unchanged(tree, book) {
-        return Ok(None);
-    }
-    let book = book.1.clone()?;
-    Ok(Some(ToStore { book, files }))
-}
-
-/// What a run stores of the files of its report: the new book, and the other files that the tree doesn't have as they came
-/// out. Nothing if it has all of them.
+/// What a run stores of its report: the new book, and the files that the tree doesn't have as they came out. Nothing if it
+/// has all of them and the book.
 pub(crate) fn to_store(
     alloc: Global,
     tree: &Tree,
     files: &[(Path, Content)],
+    book: &Content,
 ) -> Result<Option<ToStore>, AllocError>
-    ensures { IfOk result (λ new. option_map view_of new ≡ what_to_store tree.now files.now) }
+    ensures { IfOk result (λ new. option_map view_of new ≡ what_to_store tree.now files.now book.now) }
 {
-    let books = books(alloc, files)?;
-    let others = others(alloc, tree, files)?;
-    match books.first() {
-        Some(book) => if_any(tree, book, others),
-        None => Ok(None),
+    let files = others(alloc, tree, files)?;
+    if files.is_empty() && has_same_book(tree, book) {
+        return Ok(None);
     }
+    let book = book.clone()?;
+    Ok(Some(ToStore { book, files }))
 }
 
 /// What a run does to its directory.

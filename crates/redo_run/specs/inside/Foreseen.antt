@@ -21,9 +21,10 @@ pub record IsForeseen (lists : List ℕ → List (Option (List ℕ)) → Type 0)
   pub is_loaded : IsLoaded lists leads loaded f.run.passed
   pub mends : MendsTo loaded (arc_value f.mended)
   pub past : IsOfTree (to_build options (arc_value f.mended)) f.run.past
-  pub built : IsBuilt (to_build options (arc_value f.mended)) options f.run.report f.run.exit
+  pub built : IsBuilt (to_build options (arc_value f.mended)) options f.run.report f.run.book f.run.exit
   pub left : steps_left f.plan ≡ clearing loaded (arc_value f.mended)
-  pub new : steps_new (arc_value f.mended) f.plan ≡ storing (arc_value f.mended) (to_store (arc_value f.mended) f.run.report.files.items)
+  pub new : steps_new (arc_value f.mended) f.plan ≡
+      storing (arc_value f.mended) (to_store (arc_value f.mended) f.run.report.files.items f.run.book)
 
 -- why nothing is foreseen: the directory can't be read, its book is refused, or it needs too many targets
 abbrev pub IsUnforeseen : (List ℕ → List (Option (List ℕ)) → Type 0) → (List ℕ → Option Node → Type 0) → (List ℕ → ErrorKind → Type 0) → Options → RunDirFault → Type 0

@@ -46,7 +46,7 @@ returns-clause-foreseen g c =
       is_loaded = c.in_ok-tree.ensures.loaded;
       mends = subst (MendsTo c.in_ok-tree.tree) (sym same) c.in_ok-tree-2.ensures.mends;
       past = subst (λ (t : Tree). IsOfTree (to_build options t) built.past) (sym same) c.in_ok-mended.ensures.past;
-      built = subst (λ (t : Tree). IsBuilt (to_build options t) options built.report built.exit) (sym same) c.in_ok-mended.ensures.built;
+      built = subst (λ (t : Tree). IsBuilt (to_build options t) options built.report built.book built.exit) (sym same) c.in_ok-mended.ensures.built;
       left = subst (λ (t : Tree). steps_left plan ≡ clearing c.in_ok-tree.tree t) (sym same) cleared;
-      new = new_is_stored_by c.deref.result.now (arc_value mended) (arc_value mended) c.in_ok-new.new c.deref-2.result.now built.report.files.items c.in_ok-new.ensures read refl c.deref-2.ensures.value;
+      new = new_is_stored_by c.deref.result.now (arc_value mended) (arc_value mended) c.in_ok-new.new c.deref-2.result.now built.report.files.items built.book c.in_ok-new.ensures read refl c.deref-2.ensures.value;
     }

@@ -22,6 +22,7 @@ returns-in_err-write_report-clause-fault g c =
       mended = arc_value c.in_ok-preview.field-0.mended;
       mends = foreseen.mends;
       report = run.report;
+      book = run.book;
       exit = run.exit;
       built = foreseen.built;
     })

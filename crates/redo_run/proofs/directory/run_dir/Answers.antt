@@ -1,4 +1,5 @@
 use Rattle.std.proofs.Common.{◌≡◌, ◌++◌, ◌∙◌, ℕ, List, ap, rules, subst, Err}
+use Rattle.std.proofs.lemmas.Result.{err_from_is_err_and}
 use Rattle.std.specs.Arc.{arc_value}
 use Rattle.std.specs.Prelude.{IfErr}
 use Rattle.std.specs.declared.io.ErrorKind.{ErrorKind}
@@ -38,17 +39,17 @@ returns-in_err-carry_out-clause-fault g c =
     let read : c.deref.result.now ≡ tree = search rules in
     let fault = c.in_err-carry_out.field-0.0 in
     let planned = subst (λ t. IsPart told (steps_left plan) (steps_new t plan) before after fault) read c.in_err-carry_out.ensures.part in
-    let part = subst (λ ss. IsPart told ss (storing tree (to_store tree run.report.files.items)) before after fault) foreseen.left
+    let part = subst (λ ss. IsPart told ss (storing tree (to_store tree run.report.files.items run.book)) before after fault) foreseen.left
     (subst (λ ss. IsPart told (steps_left plan) ss before after fault) foreseen.new planned) in
-    let result : Err fault ≡ c.from_residual-in_err-carry_out.result = search rules in
-    subst (λ r. IfErr r (IsFaultOf lists leads refuses told options before after)) result
-    (undone_fault lists leads refuses told options before (record {
+    let p = err_from_is_err_and c.from_residual-in_err-carry_out.result c.from_residual-in_err-carry_out.ensures.1 in
+    rw (p.1, p.2) (undone_fault lists leads refuses told options before (record {
       loaded = foreseen.loaded;
       passed = run.passed;
       is_loaded = foreseen.is_loaded;
       mended = tree;
       mends = foreseen.mends;
       report = run.report;
+      book = run.book;
       exit = run.exit;
       built = foreseen.built;
     }) after fault part)
@@ -66,7 +67,7 @@ returns-in_err-write_report-clause-fault g c =
     let foreseen = c.in_ok-run.ensures.foreseen in
     let tree = arc_value c.in_ok-run.field-0.mended in
     let read : c.deref.result.now ≡ tree = search rules in
-    let done : after ≡ before ++ steps_of foreseen.loaded tree run.report =
+    let done : after ≡ before ++ steps_of foreseen.loaded tree run.report run.book =
     c.in_ok-carry_out.ensures.all ∙ ap (λ t. before ++ (steps_left plan ++ steps_new t plan)) read
     ∙ ap (λ ss. before ++ (ss ++ steps_new tree plan)) foreseen.left
     ∙ ap (λ ss. before ++ (clearing foreseen.loaded tree ++ ss)) foreseen.new in
@@ -79,6 +80,7 @@ returns-in_err-write_report-clause-fault g c =
         mended = tree;
         mends = foreseen.mends;
         report = run.report;
+        book = run.book;
         exit = run.exit;
         built = foreseen.built;
       },
