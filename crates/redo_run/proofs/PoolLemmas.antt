@@ -6,7 +6,7 @@ use Rattle.std.proofs.Math.Seq.{get_or-append_seam}
 use Rattle.std.proofs.lemmas.List.{length-append, length-map}
 use Rattle.std.proofs.lemmas.List.Elements.{All-append, All-cons, All-map, All-nil}
 use Rattle.redo_sync.specs.Relay.{RelayId, Source, Taker}
-use Rattle.redo_run.specs.inside.Workers.{IsManned, AreAllTakers}
+use Rattle.redo_run.specs.inside.Workers.{AreAllTakers, AreTakersOf, IsManned}
 
 abbrev relay_of : Taker → RelayId
 relay_of t = t.relay
@@ -44,22 +44,24 @@ module _ (relay : RelayId) (count : ℕ) where
       subst IsRelay (sym (ap (λ l. get_or l k (relay_of d)) same) ∙ get_or-map relay_of takers k d)
       (all k (relay_of d) (subst (λ n. k < n) long below))
 
-  -- those of workers that were started and of those that weren't, and the owner's, are all takers of the source
-  pub all_back : (takers idle : List Taker) (own : Taker) (promised : List RelayId) (source : Source) →
-      map relay_of takers ≡ promised ++ map relay_of idle → IsManned relay count idle promised → own.relay ≡ relay →
-      source.relay ≡ relay → count + 1 ≡ source.takers → AreAllTakers source (takers ++ own ∷ [])
-  all_back takers idle own promised source same m e of many =
-      let all = m.count in let a = length-append promised (map relay_of idle) in let b = length-append takers (own ∷ []) in
-      let c = length-map idle relay_of in
+  -- those of workers that were started and of those that weren't are takers of the relay
+  pub all_back : (takers idle : List Taker) (promised : List RelayId) → map relay_of takers ≡ promised ++ map relay_of idle →
+      IsManned relay count idle promised → AreTakersOf relay count takers
+  all_back takers idle promised same m =
+      let all = m.count in let a = length-append promised (map relay_of idle) in let c = length-map idle relay_of in
       let d : length takers ≡ length (promised ++ map relay_of idle) = sym (length-map takers relay_of) ∙ ap length same in
       let relays : All IsRelay (promised ++ map relay_of idle) =
       All-append IsRelay promised (map relay_of idle) m.promised_own (All-map IsRelay relay_of idle m.idle_own) in
+      (omega (arith, all, a, c, d), kept takers (promised ++ map relay_of idle) same relays)
+
+  -- with the owner's these are all takers of the source
+  pub all_takers : (takers : List Taker) (own : Taker) (source : Source) → AreTakersOf relay count takers → own.relay ≡ relay →
+      source.relay ≡ relay → count + 1 ≡ source.takers → AreAllTakers source (takers ++ own ∷ [])
+  all_takers takers own source all e of many =
+      let a = length-append takers (own ∷ []) in let b = all.0 in
       let each : All HasRelay (takers ++ own ∷ []) =
-      All-append HasRelay takers (own ∷ []) (kept takers (promised ++ map relay_of idle) same relays)
-      (All-cons HasRelay own [] e (All-nil HasRelay)) in (
-        omega (arith, all, a, b, c, d, many),
-        λ k t below. each k t below ∙ sym of,
-      )
+      All-append HasRelay takers (own ∷ []) all.1 (All-cons HasRelay own [] e (All-nil HasRelay)) in
+      (omega (arith, a, b, many), λ k t below. each k t below ∙ sym of)
 
 -- of takers that a relay was made with, the last and the others
 module _ (relay : RelayId) where

@@ -5,16 +5,17 @@
 //! calling one if too few look for a job, and hands in the pieces that come back through a channel. Once all workers
 //! have ended, the ledger of the relay shows that each job was taken once.
 
-ghost use Rattle.std.specs.Prelude.{◌≡◌, ◌≤◌, Err, [], IfOk, IsNone, IsTrue, ℕ};
+ghost use Rattle.std.specs.Prelude.{◌≡◌, ◌≤◌, ◌+◌, Err, [], IfOk, IsNone, IsTrue, OnOk, ℕ, length, map, vec_capacity};
 ghost use Rattle.redo_build.specs.Outcomes.{IsTooMany};
 ghost use Rattle.redo_build.specs.Takes.{AreBegun, AreCountedOnce};
 ghost use Rattle.redo_core.specs.Permits.{IsUnused};
 ghost use Rattle.redo_core.specs.Taken.{HasTaken};
-ghost use Rattle.redo_core.specs.Views.{limit_on, request_on, rules_on};
+ghost use Rattle.redo_core.specs.Views.{IsQuietBoard, limit_on, request_on, rules_on};
 ghost use Rattle.redo_rules.specs.Results.{IsGiven, IsOfTree, IsRefused, IsResultOn, NeedsTooMany};
-ghost use Rattle.redo_sync.specs.Relay.{SharesOut, taken_by};
+ghost use Rattle.redo_sync.specs.Relay.{RelayId, SharesOut, taken_by};
 ghost use Rattle.redo_run.specs.Skipping.{IsSoundOn, IsUnsafeOn};
-ghost use Rattle.redo_run.specs.inside.Workers.{AreOtherTakers, IsAnswerTo, IsBuildOf, NeedsMany};
+ghost use Rattle.redo_run.specs.inside.Workers.{AreOtherTakers, AreTakersOf, HasKeptUp, IsAnswerTo, IsBuildOf, IsManned};
+ghost use Rattle.redo_run.specs.inside.Workers.{IsSameOwner, NeedsMany};
 
 use crate::RunFault;
 use crate::crew::Shared;
@@ -23,7 +24,7 @@ use crate::host::Host;
 use crate::laws::keeping_is_sound;
 use crate::observer::Observer;
 use crate::of_build::{BuildBrand, JobOf};
-use crate::owner::{Owner, never, own};
+use crate::owner::{Owner, PoolOf, never, own};
 use crate::pace::Pace;
 use crate::pool::Pool;
 use redo_build::laws::counts_tell;
@@ -36,7 +37,7 @@ use redo_report::Report;
 use redo_step::Limits;
 use redo_sync::{JobTaker, Ledger, gather, relay};
 use redo_tree::Tree;
-use std::alloc::Global;
+use std::alloc::{AllocError, Global};
 use std::sync::Wait;
 use std::thread;
 use std::thread::{Scope, Threads};
@@ -76,6 +77,56 @@ fn answer_of<B: BuildBrand, R: Threads + Wait + Sync>(
     Ok((report, ledger))
 }
 
+/// Takes turns until the build is quiet, and ends all workers. Returns their takers, for which `back` has room.
+fn run_pool<'s, E, B: BuildBrand + Send + Sync + 's, R: Threads + Wait + Sync, O: Observer>(
+    owner: &mut Owner<B>,
+    mut pool: PoolOf<'_, 's, E, B, R, O>,
+    back: Vec<JobTaker<JobOf<B>>>,
+) -> Result<Vec<JobTaker<JobOf<B>>>, Stop>
+    requires of_build { IsGiven B.tree B.request B.limits owner.old.board.given }
+    requires running { IsNone owner.old.board.stopped }
+    requires none { back.items ≡ [] }
+    requires room { length pool.idle.items + length pool.handles.items ≤ vec_capacity back }
+    ensures same { IsSameOwner owner.old owner.new }
+    ensures kept_up { OnOk result (HasKeptUp owner.old owner.new) }
+    ensures quiet { OnOk result (IsQuietBoard owner.new.board) }
+    ensures too_many { result ≡ Err Stop.TooMany → NeedsMany owner.old }
+    ensures back { IfOk result (λ takers. (relay : RelayId) (count : ℕ) →
+        IsManned relay count pool.entry.idle.items (map (λ h. h.promise.0.value.relay) pool.entry.handles.items) →
+        AreTakersOf relay count takers.items) }
+{
+    let ended = own(owner, &mut pool);
+    let takers = pool.end(back);
+    ended?;
+    Ok(takers?)
+}
+
+/// What is left of a build that is quiet, where these are the takers of all workers.
+fn ended_build<B: BuildBrand>(
+    owner: Owner<B>,
+    mut takers: Vec<JobTaker<JobOf<B>>>,
+) -> Result<EndedBuild<B>, AllocError>
+    requires of_build { IsGiven B.tree B.request B.limits owner.board.given }
+    requires quiet { IsQuietBoard owner.board }
+    requires own { owner.own ≡ owner.source.relay }
+    requires complete { (count : ℕ) × (count + 1 ≡ owner.source.takers) ×
+        AreTakersOf owner.source.relay count takers.items }
+    requires taken { HasTaken owner.board owner.source.given }
+{
+    let Owner {
+        board,
+        source,
+        taker,
+        pace: _,
+    } = owner;
+    takers.push(taker)?;
+    Ok(EndedBuild {
+        board,
+        source,
+        takers,
+    })
+}
+
 /// Runs a build to its end: by the owner, and by as many workers as it needs of those that there are takers for.
 fn run_crew<'s, E, B: BuildBrand + Send + Sync + 's, R: Threads + Wait + Sync, O: Observer>(
     scope: &Scope<'s, E>,
@@ -92,23 +143,9 @@ fn run_crew<'s, E, B: BuildBrand + Send + Sync + 's, R: Threads + Wait + Sync, O
     ensures too_many { result ≡ Err Stop.TooMany → NeedsMany owner }
 {
     let back = Vec::with_capacity(alloc, takers.len())?;
-    let mut pool = Pool::new(scope, shared, lead, alloc, takers)?;
-    let ended = own(&mut owner, &mut pool);
-    let takers = pool.end(back);
-    ended?;
-    let mut takers = takers?;
-    let Owner {
-        board,
-        source,
-        taker,
-        pace: _,
-    } = owner;
-    takers.push(taker)?;
-    Ok(EndedBuild {
-        board,
-        source,
-        takers,
-    })
+    let pool = Pool::new(scope, shared, lead, alloc, takers)?;
+    let takers = run_pool(&mut owner, pool, back)?;
+    Ok(ended_build(owner, takers)?)
 }
 
 /// The same in a scope of threads: all have ended when it returns. What is left of the run comes out of the scope

@@ -46,9 +46,13 @@ pub record IsManned (relay : RelayId) (workers : ℕ) (idle : List Taker) (promi
   pub idle_own : All (λ t. t.relay ≡ relay) idle
   pub promised_own : All (λ r. r ≡ relay) promised
 
+-- these are so many takers of the relay
+abbrev pub AreTakersOf : RelayId → ℕ → List Taker → Type 0
+AreTakersOf relay count takers = (length takers ≡ count) × All (λ t. t.relay ≡ relay) takers
+
 -- these are all takers of the source
 abbrev pub AreAllTakers : Source → List Taker → Type 0
-AreAllTakers source takers = (length takers ≡ source.takers) × All (λ t. t.relay ≡ source.relay) takers
+AreAllTakers source takers = AreTakersOf source.relay source.takers takers
 
 -- the owner's taker and these are all takers of its source
 abbrev pub AreOtherTakers : OwnerView → List Taker → Type 0

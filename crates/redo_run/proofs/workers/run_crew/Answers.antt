@@ -1,37 +1,32 @@
-use Rattle.std.proofs.Common.{◌≡◌, ◌∙◌, List, ap, length, map, subst, sym}
+use Rattle.std.proofs.Common.{◌≡◌, ◌∙◌, ◌+◌, List, ap, length, map, subst, sym}
 use Rattle.std.specs.Prelude.{All}
-use Rattle.redo_core.specs.Taken.{HasTaken}
-use Rattle.redo_core.specs.Views.{IsQuietBoard}
 use Rattle.redo_rules.specs.Results.{IsGiven}
-use Rattle.redo_sync.specs.Relay.{Taker}
-use Rattle.redo_run.specs.inside.Workers.{OwnerView, AreAllTakers}
-use Rattle.redo_run.proofs.PoolLemmas.{all_back, none_started}
+use Rattle.redo_sync.specs.Relay.{RelayId, Taker}
+use Rattle.redo_run.specs.inside.Workers.{AreTakersOf}
+use Rattle.redo_run.proofs.PoolLemmas.{none_started}
 use Rattle.redo_run.proofs.workers.run_crew.Goals as goal
 
--- the board is of the build and quiet, the takers that are back are all of the source's, and what the owner gave is what
--- the board has taken
-pub invariant_of-result : goal.invariant_of-result
-invariant_of-result g c =
+-- the board is that of the build still
+pub ended_build-requires-clause-of_build : goal.ended_build-requires-clause-of_build
+ended_build-requires-clause-of_build g c =
+    subst (IsGiven g.B.BuildBrand.tree g.B.BuildBrand.request g.B.BuildBrand.limits) (sym c.in_ok-takers.ensures.same.0) c.requires.of_build
+
+pub ended_build-requires-clause-own : goal.ended_build-requires-clause-own
+ended_build-requires-clause-own g c =
+    let same = c.in_ok-takers.ensures.same in same.2 ∙ c.requires.complete.2 ∙ sym same.1.0
+
+-- the takers that are back are those of the workers
+pub ended_build-requires-clause-complete : goal.ended_build-requires-clause-complete
+ended_build-requires-clause-complete g c =
     let relay = c.args.owner.source.relay in let workers = c.args.takers.items in
-    let source = c.owner-2.inside.source in let own = c.owner-2.inside.taker in
     let pool = c.in_ok-pool.pool in let opened = c.in_ok-pool.ensures in
-    let ran = c.in_ok-ended.ensures in let same = ran.same in let complete = c.requires.complete in let view = c.owner-2.view_is in
-    let Of : OwnerView → Type 0 = λ d. IsGiven g.B.BuildBrand.tree g.B.BuildBrand.request g.B.BuildBrand.limits d.board.given in
-    let Quiet : OwnerView → Type 0 = λ d. IsQuietBoard d.board in
-    let Took : OwnerView → Type 0 = λ d. HasTaken d.board d.source.given in
-    let Complete : List Taker → Type 0 = λ l. AreAllTakers source l in
+    let same = c.in_ok-takers.ensures.same in let complete = c.requires.complete in
     let Own : List Taker → Type 0 = All (λ t. t.relay ≡ relay) in
-    let start =
-    ran.manned relay (length workers)
+    let back =
+    c.in_ok-takers.ensures.back relay (length workers)
     (none_started relay (length workers) pool.idle.items _ (ap (map _) opened.none_started) (ap length opened.idle) (subst Own (sym opened.idle) complete.3)) in
-    let mine : own.relay ≡ relay = ap (λ (d : OwnerView). d.own) view ∙ same.2 ∙ complete.2 in
-    let of : source.relay ≡ relay = ap (λ (d : OwnerView). d.source.relay) view ∙ same.1.0 in
-    let many = complete.1 ∙ sym same.1.1 ∙ sym (ap (λ (d : OwnerView). d.source.takers) view) in
-    record {
-      of_build = subst Of (sym view) (subst (IsGiven g.B.BuildBrand.tree g.B.BuildBrand.request g.B.BuildBrand.limits) (sym same.0) c.requires.of_build);
-      quiet = subst Quiet (sym view) ran.quiet;
-      complete =
-          subst Complete (sym c.in_ok-push.ensures.items)
-          (all_back relay (length workers) c.in_ok-takers.takers.items c.own-ended.new.pool.idle.items own _ source c.in_ok-takers.ensures.all start mine of many);
-      taken = subst Took (sym view) (ran.kept_up.1 c.requires.taken);
-    }
+    let P : RelayId → Type 0 = λ r. AreTakersOf r (length workers) c.in_ok-takers.takers.items in
+    (length workers, complete.1 ∙ sym same.1.1, subst P (sym same.1.0) back)
+
+pub ended_build-requires-clause-taken : goal.ended_build-requires-clause-taken
+ended_build-requires-clause-taken g c = c.in_ok-takers.ensures.kept_up.1 c.requires.taken
