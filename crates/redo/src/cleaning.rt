@@ -66,6 +66,55 @@ pub(crate) fn clean_by_plan<D: WorkDir, H: Runtime>(
     }
 }
 
+/// Prints what would become of a directory, and returns how many names were passed over.
+fn try_out<H: Runtime + Threads + Sync>(
+    rt: &H,
+    alloc: Global,
+    cleaning: &Cleaning,
+    cause: &mut Cause,
+) -> Result<u64, Fault>
+where
+    H::File: Send + Lockable,
+    H::Dir: Send,
+{
+    let dir = SystemDir::new(rt, alloc, &cleaning.dir);
+    let (plan, passed) = plan_of(rt, alloc, &dir, cleaning.workers, cause)?;
+    print(rt, &planned_text(alloc, &plan)?)?;
+    Ok(passed)
+}
+
+/// Plans a clean of a directory and carries it out. Returns how many names were passed over.
+fn clean_by<D: WorkDir + Sync, H: Runtime + Threads + Sync>(
+    rt: &H,
+    alloc: Global,
+    dir: &mut D,
+    workers: usize,
+    cause: &mut Cause,
+) -> Result<u64, Fault>
+where
+    D::Draft: Send,
+{
+    let (plan, passed) = plan_of(rt, alloc, dir, workers, cause)?;
+    clean_by_plan(rt, alloc, dir, &plan, cause)?;
+    Ok(passed)
+}
+
+/// Locks a directory and cleans it. Returns how many names were passed over.
+fn clean_locked<H: Runtime + Threads + Sync>(
+    rt: &H,
+    alloc: Global,
+    cleaning: &Cleaning,
+    cause: &mut Cause,
+) -> Result<u64, Fault>
+where
+    H::File: Send + Lockable,
+    H::Dir: Send,
+{
+    let lock = lock(rt, alloc, &cleaning.dir, cause)?;
+    let mut dir = SystemDir::locked(rt, alloc, &cleaning.dir, &lock, false);
+    clean_by(rt, alloc, &mut dir, cleaning.workers, cause)
+}
+
 /// Cleans a directory; in a dry run, prints what would become of it.
 pub(crate) fn clean_dir<H: Runtime + Threads + Sync>(
     rt: &H,
@@ -78,16 +127,9 @@ where
     H::Dir: Send,
 {
     let passed = if cleaning.dry_run {
-        let dir = SystemDir::new(rt, alloc, &cleaning.dir);
-        let (plan, passed) = plan_of(rt, alloc, &dir, cleaning.workers, cause)?;
-        print(rt, &planned_text(alloc, &plan)?)?;
-        passed
+        try_out(rt, alloc, cleaning, cause)?
     } else {
-        let lock = lock(rt, alloc, &cleaning.dir, cause)?;
-        let mut dir = SystemDir::locked(rt, alloc, &cleaning.dir, &lock, false);
-        let (plan, passed) = plan_of(rt, alloc, &dir, cleaning.workers, cause)?;
-        clean_by_plan(rt, alloc, &mut dir, &plan, cause)?;
-        passed
+        clean_locked(rt, alloc, cleaning, cause)?
     };
     note_passed(rt, passed);
     Ok(true)

@@ -114,50 +114,105 @@ fn is_link<H: Runtime>(
     }
 }
 
-/// Shows the first names that were passed over when this tree was read, how many more there are, and what to do about
-/// links.
-fn say_names<H: Runtime>(
-    rt: &H,
+/// How many names were passed over so far, and whether one of them is a link.
+#[derive(Drop)]
+struct Passed {
+    count: usize,
+    has_link: bool,
+}
+
+/// A directory whose tree was read, and who is told of the names that were passed over.
+#[derive(Drop)]
+struct Walk<'a, H> {
+    rt: &'a H,
     alloc: Global,
     voice: Voice,
-    top: &str,
-    tree: &Tree,
-) -> io::Result<()> {
-    let dir = SystemDir::new(rt, alloc, top);
-    let mut count = 0usize;
-    let mut has_link = false;
-    for (above, entry) in tree.in_order(alloc)? {
-        if !matches!(entry, Entry::Directory) {
-            continue;
+    top: &'a str,
+    tree: &'a Tree,
+}
+
+impl<'a, H: Runtime> Walk<'a, H> {
+    /// Counts a name if it was passed over, and shows it if it is among the first.
+    fn note_name<D: WorkDir>(
+        &self,
+        dir: &D,
+        above: &Path,
+        name: &Option<String>,
+        passed: &mut Passed,
+    ) -> io::Result<()> {
+        let Some(why) = why_passed(self.alloc, dir, self.tree, above, name)? else {
+            return Ok(());
+        };
+        passed.count = passed.count.saturating_add(1);
+        passed.has_link = passed.has_link || is_link(self.rt, self.alloc, self.top, above, name);
+        if passed.count <= MOST {
+            self.voice
+                .note(self.rt, words(self.alloc, above, name, why)?.as_bytes());
         }
-        for name in dir.list(alloc, above)? {
-            let Some(why) = why_passed(alloc, &dir, tree, above, &name)? else {
-                continue;
-            };
-            count = count.saturating_add(1);
-            has_link = has_link || is_link(rt, alloc, top, above, &name);
-            if count <= MOST {
-                voice.note(rt, words(alloc, above, &name, why)?.as_bytes());
+        Ok(())
+    }
+
+    /// Does the same with each name of a directory.
+    fn note_names_in<D: WorkDir>(
+        &self,
+        dir: &D,
+        above: &Path,
+        passed: &mut Passed,
+    ) -> io::Result<()> {
+        for name in dir.list(self.alloc, above)? {
+            self.note_name(dir, above, &name, passed)?;
+        }
+        Ok(())
+    }
+
+    /// Does the same with each name in the tree's directories.
+    fn note_all<D: WorkDir>(&self, dir: &D, passed: &mut Passed) -> io::Result<()> {
+        for (above, entry) in self.tree.in_order(self.alloc)? {
+            if matches!(entry, Entry::Directory) {
+                self.note_names_in(dir, above, passed)?;
             }
         }
+        Ok(())
     }
-    if count > MOST {
-        let more = count - MOST;
-        voice.note(
-            rt,
-            format!(in alloc; "and {more} more were passed over")?.as_bytes(),
-        );
+
+    /// Shows how many names weren't shown, and what to do about links.
+    fn say_rest(&self, passed: &Passed) -> Result<(), AllocError> {
+        if passed.count > MOST {
+            let more = passed.count - MOST;
+            let words = format!(in self.alloc; "and {more} more were passed over")?;
+            self.voice.note(self.rt, words.as_bytes());
+        }
+        if passed.has_link {
+            self.voice.note(self.rt, LINKS);
+        }
+        Ok(())
     }
-    if has_link {
-        voice.note(rt, LINKS);
-    }
+}
+
+/// Shows the first names that were passed over when a tree was read, how many more there are, and what to do about
+/// links.
+fn say_names<H: Runtime>(walk: &Walk<'_, H>) -> io::Result<()> {
+    let dir = SystemDir::new(walk.rt, walk.alloc, walk.top);
+    let mut passed = Passed {
+        count: 0,
+        has_link: false,
+    };
+    walk.note_all(&dir, &mut passed)?;
+    walk.say_rest(&passed)?;
     Ok(())
 }
 
 /// Shows the names of a directory that were passed over, if notes are shown. Leaves out the rest once the directory
 /// can't be read, or memory runs out.
-pub(crate) fn note_names<H: Runtime>(rt: &H, alloc: Global, voice: Voice, dir: &str, tree: &Tree) {
+pub(crate) fn note_names<H: Runtime>(rt: &H, alloc: Global, voice: Voice, top: &str, tree: &Tree) {
     if voice.notes {
-        let _said = say_names(rt, alloc, voice, dir, tree);
+        let walk = Walk {
+            rt,
+            alloc,
+            voice,
+            top,
+            tree,
+        };
+        let _said = say_names(&walk);
     }
 }
