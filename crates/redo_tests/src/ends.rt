@@ -86,23 +86,43 @@ fn run_to<R: Threads + Wait + Sync, W: ByteOut>(
     }
 }
 
+/// The whole report of `hello`.
+fn whole_report<R: Threads + Wait + Sync>(
+    host: &mut Host<'_, R, NoObserver>,
+) -> Result<Vec<u8>, Fail>
+    requires { IsUnused host.old.permit }
+{
+    let mut whole = Plain::new(Vec::new(host.alloc()));
+    if run_to(host, &mut whole)? != Ok(Exit::Good) {
+        Err("hello isn't built")?;
+    }
+    let Plain { stream, broken: _ } = whole;
+    Ok(stream)
+}
+
+/// Whether a run whose writer fails at this call says so, and has written as many bytes of the report.
+fn is_told<R: Threads + Wait + Sync>(
+    host: &mut Host<'_, R, NoObserver>,
+    report: &[u8],
+    call: usize,
+    takes_nothing: bool,
+) -> Result<bool, Fail>
+    requires { IsUnused host.old.permit }
+{
+    let mut sink = make_sink(host.alloc(), call, takes_nothing);
+    let outcome = run_to(host, &mut sink)?;
+    let is_front = sink.text.len() == call && report.starts_with(&sink.text);
+    Ok(is_front && outcome == Err(RunIoFault::Device))
+}
+
 #[test]
 fn a_writer_may_fail_at_any_call(rt: HostRuntime) -> Result<(), Fail> {
-    let alloc = rt.alloc();
-    let mut whole = Plain::new(Vec::new(alloc));
-    assert!(rt; run_to(&mut host_of(&rt), &mut whole)? == Ok(Exit::Good));
-    let Plain {
-        stream: report,
-        broken: _,
-    } = whole;
+    let report = whole_report(&mut host_of(&rt))?;
     assert!(rt; report.starts_with(b"built 3 hello\n"));
     for call in 0..report.len() {
         for takes_nothing in [false, true] {
-            let mut sink = make_sink(alloc, call, takes_nothing);
-            let outcome = run_to(&mut host_of(&rt), &mut sink)?;
-            assert!(rt; outcome == Err(RunIoFault::Device), "call {call}");
             assert!(rt;
-                sink.text.len() == call && report.starts_with(&sink.text),
+                is_told(&mut host_of(&rt), &report, call, takes_nothing)?,
                 "call {call}"
             );
         }

@@ -1,6 +1,8 @@
 //! What a call leaves if it is refused memory: `tests/refused-memory` refuses each allocation of these tests in turn,
 //! one in each run.
 
+ghost use Rattle.redo_core.specs.Permits.{IsUnused};
+
 use crate::pieces::{answer, counts, first_piece};
 use crate::relay::Ticket;
 use crate::trees::{
@@ -13,13 +15,14 @@ use redo_core::permit::Permit;
 use redo_core::work::{Piece, Work};
 use redo_path::Path;
 use redo_report::{Report, report_text};
-use redo_run::{NoObserver, RunFault, build_one};
+use redo_run::{Host, NoObserver, RunFault, build_one};
 use redo_sync::{Cells, JobTaker, Numbered, Taken, relay};
 use redo_tree::Tree;
 use std::alloc::Global;
 use std::marker::Brand;
-use std::sync::Arc;
+use std::sync::{Arc, Wait};
 use std::test::Fail;
+use std::thread::Threads;
 
 /// Each target asks for another one.
 const ENDLESS: &str = "file 20 default.do\nredo-ifchange \"$1\"x\n\nend\n";
@@ -57,40 +60,54 @@ fn is_answer(
     }
 }
 
+/// What a build by one thread comes to.
+fn by_one_thread(
+    rt: &HostRuntime,
+    bundle: &str,
+    words: &str,
+) -> Result<Result<Report, RunFault>, Fail> {
+    let alloc = rt.alloc();
+    let request = paths_of(alloc, words)?;
+    let mut permit = Permit::new(rt, alloc);
+    let tree = tree_of(alloc, bundle)?;
+    let limits = limits_of(100)?;
+    Ok(build_one(&mut permit, tree, &request, limits))
+}
+
+/// What a build by four workers comes to.
+fn by_four_workers<R: Threads + Wait + Sync>(
+    host: &mut Host<'_, R, NoObserver>,
+    bundle: &str,
+    words: &str,
+) -> Result<Result<Report, RunFault>, Fail>
+    requires { IsUnused host.old.permit }
+{
+    let alloc = host.alloc();
+    let request = paths_of(alloc, words)?;
+    let tree = tree_of(alloc, bundle)?;
+    let limits = limits_of(100)?;
+    let found = built_by::<Brand, R, NoObserver>(host, tree, &request, limits, 4);
+    Ok(found.map(|(report, _none_left)| report))
+}
+
 #[test]
 fn one_thread_answers_as_ever_or_is_out_of_memory(rt: HostRuntime) -> Result<(), Fail> {
-    let alloc = rt.alloc();
     let mut was_refused = false;
     for (rule, bundle, words, expected) in BUILDS {
-        let request = paths_of(alloc, words)?;
-        let mut permit = Permit::new(&rt, alloc);
-        let tree = tree_of(alloc, bundle)?;
-        let found = build_one(&mut permit, tree, &request, limits_of(100)?);
-        assert!(rt;
-            is_answer(alloc, found, expected, &mut was_refused)?,
-            "{rule}"
-        );
+        let found = by_one_thread(&rt, bundle, words)?;
+        let is_answer = is_answer(rt.alloc(), found, expected, &mut was_refused)?;
+        assert!(rt; is_answer, "{rule}");
     }
     Ok(())
 }
 
 #[test]
 fn four_workers_answer_as_ever_or_are_out_of_memory(rt: HostRuntime) -> Result<(), Fail> {
-    let alloc = rt.alloc();
     let mut was_refused = false;
     for (rule, bundle, words, expected) in BUILDS {
-        let mut host = host_of(&rt);
-        let request = paths_of(alloc, words)?;
-        let tree = tree_of(alloc, bundle)?;
-        let limits = limits_of(100)?;
-        let found = built_by::<Brand, HostRuntime, NoObserver>(
-            &mut host, tree, &request, limits, 4,
-        );
-        let report = found.map(|(report, _none_left)| report);
-        assert!(rt;
-            is_answer(alloc, report, expected, &mut was_refused)?,
-            "{rule}"
-        );
+        let found = by_four_workers(&mut host_of(&rt), bundle, words)?;
+        let is_answer = is_answer(rt.alloc(), found, expected, &mut was_refused)?;
+        assert!(rt; is_answer, "{rule}");
     }
     Ok(())
 }

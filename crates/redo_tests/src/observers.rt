@@ -1,18 +1,18 @@
 //! Which jobs workers take up, how often, and how many at a time.
 
-use crate::trees::{DIAMOND, DIAMOND_REPORT, built_by, limits_of, paths_of, tree_of};
+ghost use Rattle.redo_core.specs.Permits.{IsUnused};
+
+use crate::trees::{DIAMOND, DIAMOND_REPORT, host_with, limits_of, paths_of, watched};
 use redo_bundle::Plain;
 use redo_core::board::Board;
-use redo_core::permit::Permit;
 use redo_path::Path;
-use redo_report::report_text;
-use redo_run::{Cause, Exit, Host, Observer, Options, run_bundle};
+use redo_run::{Cause, Exit, Host, Observer, Options, RunIoFault, run_bundle};
 use std::alloc::{AllocError, Global};
-use std::marker::Brand;
+use std::sync::Wait;
 use std::sync::atomic::AtomicU64;
 use std::sync::atomic::Ordering::SeqCst;
 use std::test::Fail;
-use std::thread::yield_now;
+use std::thread::{Threads, yield_now};
 
 /// Writes a target whose script is long, so that it is worth a worker.
 fn write_long(bundle: &mut Vec<u8>, head: &[u8]) -> Result<(), AllocError> {
@@ -58,37 +58,42 @@ impl Observer for Pair {
     }
 }
 
+/// How a run of two workers over two targets ends.
+fn run_by_two<R: Threads + Wait + Sync>(
+    host: &mut Host<'_, R, Pair>,
+    words: &str,
+) -> Result<Result<Exit, RunIoFault>, Fail>
+    requires { IsUnused host.old.permit }
+{
+    let alloc = host.alloc();
+    let options = Options {
+        targets: paths_of(alloc, words)?,
+        taken: Vec::new(alloc),
+        workers: 2,
+        limits: limits_of(3)?,
+    };
+    let bundle = two(alloc)?;
+    match run_bundle(
+        host,
+        &mut Plain::new(bundle.as_slice()),
+        &mut Plain::new(Vec::new(alloc)),
+        &options,
+        &mut Cause::new(alloc),
+    ) {
+        Ok(run) => Ok(Ok(run.exit)),
+        Err(fault) => Ok(Err(fault)),
+    }
+}
+
 /// Two targets that are requested, and two that become ready later.
 #[test]
 fn both_must_be_inside_a_run(rt: HostRuntime) -> Result<(), Fail> {
-    let alloc = rt.alloc();
     for words in ["a b", "top"] {
         let pair = Pair {
             entered: AtomicU64::new(0),
             in_vain: AtomicU64::new(0),
         };
-        let options = Options {
-            targets: paths_of(alloc, words)?,
-            taken: Vec::new(alloc),
-            workers: 2,
-            limits: limits_of(3)?,
-        };
-        let mut host = Host {
-            rt: &rt,
-            permit: Permit::new(&rt, alloc),
-            observer: &pair,
-        };
-        let outcome = run_bundle(
-            &mut host,
-            &mut Plain::new(two(alloc)?.as_slice()),
-            &mut Plain::new(Vec::new(alloc)),
-            &options,
-            &mut Cause::new(alloc),
-        );
-        let exit = match outcome {
-            Ok(run) => Ok(run.exit),
-            Err(fault) => Err(fault),
-        };
+        let exit = run_by_two(&mut host_with(&rt, &pair), words)?;
         assert!(rt; exit == Ok(Exit::Good), "{words}");
         assert_eq!(rt; pair.entered.load(SeqCst), 2, "{words}");
         assert_eq!(rt; pair.in_vain.load(SeqCst), 0, "{words}");
@@ -170,27 +175,15 @@ impl Observer for Crowd {
 
 #[test]
 fn each_job_enters_once_and_no_more_are_inside_than_workers(rt: HostRuntime) -> Result<(), Fail> {
-    let alloc = rt.alloc();
     for workers in [1usize, 2, 8] {
-        let crowd = Crowd::new(alloc, workers as u64)?;
-        let request = paths_of(alloc, "top")?;
-        let tree = tree_of(alloc, DIAMOND)?;
-        let limits = limits_of(4)?;
-        let mut host = Host {
-            rt: &rt,
-            permit: Permit::new(&rt, alloc),
-            observer: &crowd,
-        };
-        let (report, none_left) = built_by::<Brand, HostRuntime, Crowd>(
-            &mut host, tree, &request, limits, workers,
-        )?;
-        let text = report_text(alloc, &report, false)?;
+        let crowd = Crowd::new(rt.alloc(), workers as u64)?;
+        let text = watched(&mut host_with(&rt, &crowd), DIAMOND, "top", workers)?;
         assert_eq!(rt;
             text.as_slice(),
             DIAMOND_REPORT.as_bytes(),
             "{workers} workers"
         );
-        assert!(rt; none_left && crowd.saw_each_once(), "{workers} workers");
+        assert!(rt; crowd.saw_each_once(), "{workers} workers");
         assert_eq!(rt; crowd.too_many.load(SeqCst), 0, "{workers} workers");
     }
     Ok(())

@@ -9,7 +9,12 @@ use std::sync::Arc;
 use std::test::Fail;
 
 /// A board over the tree of a bundle, for these words and with this limit of targets.
-fn board_of(rt: &HostRuntime, bundle: &str, words: &str, targets: u32) -> Result<Board, Fail> {
+pub(crate) fn board_of(
+    rt: &HostRuntime,
+    bundle: &str,
+    words: &str,
+    targets: u32,
+) -> Result<Board, Fail> {
     let alloc = rt.alloc();
     let mut permit = Permit::new(rt, alloc);
     let tree = Arc::new(alloc, tree_of(alloc, bundle)?)?;

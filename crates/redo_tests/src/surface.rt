@@ -1,21 +1,18 @@
 //! Calls that no run makes, or only behind others, with ample memory.
 
 use crate::memory_dir::MemoryDir;
-use crate::trees::{built_by, limits_of, paths_of, tree_of};
-use redo_core::board::Board;
-use redo_core::permit::Permit;
+use crate::pieces::board_of;
+use crate::trees::{host_with, limits_of, paths_of, tree_of, watched};
 use redo_dir::{WorkDir, Writers, load_dir, store_files};
 use redo_path::Path;
 use redo_record::Outcome;
-use redo_report::report_text;
-use redo_run::{Gate, Gated, Host, NoGate};
+use redo_run::{Gate, Gated, NoGate};
 use redo_script::parse;
 use redo_step::{Answers, Job, JobInputs, Parsed, Step};
 use redo_tree::{Content, Kind, Tree};
 use redo_which::Found;
 use redo_which::lookup::{candidates, find, search};
 use std::alloc::{AllocError, Global};
-use std::marker::Brand;
 use std::sync::Arc;
 use std::sync::atomic::AtomicU64;
 use std::sync::atomic::Ordering::SeqCst;
@@ -85,23 +82,27 @@ fn first_stop(
     }
 }
 
-#[test]
-fn a_job_stops_where_it_lacks_an_answer(rt: HostRuntime) -> Result<(), Fail> {
-    let alloc = rt.alloc();
+/// The inputs of the job of `a.x`, with this script.
+fn inputs_of(alloc: Global, script: &[u8]) -> Result<JobInputs, Fail> {
     let tree = Arc::new(alloc, tree_of(alloc, RULE)?)?;
     let target = path_of(alloc, "a.x")?;
     let Found::Rule(rule) = find(alloc, &tree, &target)? else {
         return Err("no rule")?;
     };
-    let script = parse(alloc, b"redo-ifchange b c\n")?;
-    let inputs = JobInputs {
+    let parsed = Arc::new(alloc, Parsed::Read(parse(alloc, script)?))?;
+    Ok(JobInputs {
         alloc,
         tree,
         target,
         rule,
-        parsed: Arc::new(alloc, Parsed::Read(script))?,
+        parsed,
         limits: limits_of(1)?,
-    };
+    })
+}
+
+#[test]
+fn a_job_stops_where_it_lacks_an_answer(rt: HostRuntime) -> Result<(), Fail> {
+    let inputs = inputs_of(rt.alloc(), b"redo-ifchange b c\n")?;
     let (job, paths) = first_stop(inputs, &Nothing)?.ok_or("it has ended")?;
     assert!(rt; job.target().text() == b"a.x".as_slice() && job.turn() == 1);
     assert!(rt; job.declared().len() == 2 && paths.len() == 2);
@@ -123,15 +124,7 @@ fn a_file_is_stored_in_a_directory_that_was_read(rt: HostRuntime) -> Result<(), 
 
 #[test]
 fn ready_targets_stand_in_a_queue(rt: HostRuntime) -> Result<(), Fail> {
-    let alloc = rt.alloc();
-    let tree = Arc::new(alloc, tree_of(alloc, RULE)?)?;
-    let mut permit = Permit::new(&rt, alloc);
-    let mut board = Board::open(
-        &mut permit,
-        tree,
-        &paths_of(alloc, "b.x a.x")?,
-        limits_of(2)?,
-    )?;
+    let mut board = board_of(&rt, RULE, "b.x a.x", 2)?;
     assert_eq!(rt; board.ready(), 2);
     assert!(rt; board.ready_at(0).text() == b"b.x".as_slice());
     assert!(rt; board.ready_at(1).text() == b"a.x".as_slice());
@@ -177,28 +170,14 @@ impl Gate for Counts {
 
 #[test]
 fn each_job_passes_the_gate(rt: HostRuntime) -> Result<(), Fail> {
-    let alloc = rt.alloc();
     let gated = Gated(Counts {
         stops: AtomicU64::new(0),
         goes_on: AtomicU64::new(0),
         asked: AtomicU64::new(0),
         strange: AtomicU64::new(0),
     });
-    let mut host = Host {
-        rt: &rt,
-        permit: Permit::new(&rt, alloc),
-        observer: &gated,
-    };
-    let (tree, request) = (tree_of(alloc, ASKING)?, paths_of(alloc, "a")?);
-    let (report, none_left) = built_by::<Brand, HostRuntime, Gated<Counts>>(
-        &mut host,
-        tree,
-        &request,
-        limits_of(2)?,
-        2,
-    )?;
-    let text = report_text(alloc, &report, false)?;
-    assert!(rt; none_left && text.as_slice() == ASKING_REPORT.as_bytes());
+    let text = watched(&mut host_with(&rt, &gated), ASKING, "a", 2)?;
+    assert_eq!(rt; text.as_slice(), ASKING_REPORT.as_bytes());
     let Gated(counts) = &gated;
     assert_eq!(rt; counts.stops.load(SeqCst), 1);
     assert_eq!(rt; counts.goes_on.load(SeqCst), 1);
@@ -209,21 +188,7 @@ fn each_job_passes_the_gate(rt: HostRuntime) -> Result<(), Fail> {
 
 #[test]
 fn no_gate_lets_all_pass(rt: HostRuntime) -> Result<(), Fail> {
-    let alloc = rt.alloc();
-    let mut host = Host {
-        rt: &rt,
-        permit: Permit::new(&rt, alloc),
-        observer: &Gated(NoGate),
-    };
-    let (tree, request) = (tree_of(alloc, ASKING)?, paths_of(alloc, "a")?);
-    let (report, none_left) = built_by::<Brand, HostRuntime, Gated<NoGate>>(
-        &mut host,
-        tree,
-        &request,
-        limits_of(2)?,
-        2,
-    )?;
-    let text = report_text(alloc, &report, false)?;
-    assert!(rt; none_left && text.as_slice() == ASKING_REPORT.as_bytes());
+    let text = watched(&mut host_with(&rt, &Gated(NoGate)), ASKING, "a", 2)?;
+    assert_eq!(rt; text.as_slice(), ASKING_REPORT.as_bytes());
     Ok(())
 }

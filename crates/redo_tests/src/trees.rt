@@ -7,11 +7,12 @@ ghost use Rattle.redo_core.specs.Permits.{IsUnused};
 use redo_bundle::{Plain, read_bundle};
 use redo_core::permit::Permit;
 use redo_path::{Path, resolve};
-use redo_report::Report;
+use redo_report::{Report, report_text};
 use redo_run::{BuildBrand, Host, NoObserver, Observer, RunFault, build_many};
 use redo_step::Limits;
 use redo_tree::Tree;
 use std::alloc::Global;
+use std::marker::Brand;
 use std::sync::Wait;
 use std::test::Fail;
 use std::thread::Threads;
@@ -66,15 +67,22 @@ pub(crate) fn limits_of(targets: u32) -> Result<Limits, Fail> {
     Ok(Limits::new(targets, 100).ok_or("limits")?)
 }
 
-/// What a run is lent, with a permit of its own.
-pub(crate) fn host_of(rt: &HostRuntime) -> Host<'_, HostRuntime, NoObserver>
+/// What a run is lent that an observer watches, with a permit of its own.
+pub(crate) fn host_with<'a, O>(rt: &'a HostRuntime, observer: &'a O) -> Host<'a, HostRuntime, O>
     ensures { IsUnused result.permit }
 {
     Host {
         rt,
         permit: Permit::new(rt, rt.alloc()),
-        observer: &NoObserver,
+        observer,
     }
+}
+
+/// The same without an observer.
+pub(crate) fn host_of(rt: &HostRuntime) -> Host<'_, HostRuntime, NoObserver>
+    ensures { IsUnused result.permit }
+{
+    host_with(rt, &NoObserver)
 }
 
 /// A build by so many workers: its report, and whether no job is left. The type names the build in the contract of
@@ -93,4 +101,26 @@ pub(crate) fn built_by<B: BuildBrand + Send + Sync, R: Threads + Wait + Sync, O:
 {
     let (report, ledger) = build_many::<B, R, O>(host, tree, request, limits, workers)?;
     Ok((report, ledger.left().is_empty()))
+}
+
+/// The report, without its files, that a bundle's build of these words comes to by so many workers. The limit is four
+/// targets. A job that is left is a failure.
+pub(crate) fn watched<R: Threads + Wait + Sync, O: Observer>(
+    host: &mut Host<'_, R, O>,
+    bundle: &str,
+    words: &str,
+    workers: usize,
+) -> Result<Vec<u8>, Fail>
+    requires permit { IsUnused host.old.permit }
+    requires some { 1 ≤ workers }
+    requires few { workers ≤ 64 }
+{
+    let alloc = host.alloc();
+    let (tree, request) = (tree_of(alloc, bundle)?, paths_of(alloc, words)?);
+    let limits = limits_of(4)?;
+    let (report, none_left) = built_by::<Brand, R, O>(host, tree, &request, limits, workers)?;
+    if !none_left {
+        Err("a job is left")?;
+    }
+    Ok(report_text(alloc, &report, false)?)
 }

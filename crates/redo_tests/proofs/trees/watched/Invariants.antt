@@ -1,4 +1,4 @@
-use Rattle.redo_tests.proofs.observers.each_job_enters_once_and_no_more_are_inside_than_workers.Given as goal
+use Rattle.redo_tests.proofs.trees.watched.Given as goal
 
 -- the build is that of the tree
 abbrev pub ghosts-built_by : goal.ghosts-built_by

@@ -1,4 +1,4 @@
-use Rattle.redo_tests.proofs.surface.no_gate_lets_all_pass.Given as goal
+use Rattle.redo_tests.proofs.memory.by_four_workers.Given as goal
 
 -- the build is that of the tree
 abbrev pub ghosts-built_by : goal.ghosts-built_by

@@ -1,5 +1,0 @@
-use Rattle.redo_tests.proofs.memory.four_workers_answer_as_ever_or_are_out_of_memory.Given as goal
-
--- the build is that of the tree
-abbrev pub ghosts-built_by : goal.ghosts-built_by
-ghosts-built_by g a = record { tree = a.tree; request = a.request.now; limits = a.limits }
