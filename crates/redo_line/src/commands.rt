@@ -180,18 +180,24 @@ pub(crate) fn with_commands<'a>(
     alloc: Global,
     command: Command<'a>,
 ) -> Result<Command<'a>, AllocError> {
-    command
-        .arg(list_targets(alloc))?
-        .arg(list_sources(alloc))?
-        .arg(deps(alloc))?
-        .arg(rdeps(alloc))?
-        .arg(all(alloc))?
-        .arg(ood(alloc))?
-        .arg(shadowed(alloc))?
-        .arg(pack(alloc))?
-        .arg(unpack(alloc))?
-        .arg(clean(alloc))?
-        .arg(dead(alloc))
+    let mut command = command;
+    let options = [
+        list_targets(alloc),
+        list_sources(alloc),
+        deps(alloc),
+        rdeps(alloc),
+        all(alloc),
+        ood(alloc),
+        shadowed(alloc),
+        pack(alloc),
+        unpack(alloc),
+        clean(alloc),
+        dead(alloc),
+    ];
+    for option in options {
+        command = command.arg(option)?;
+    }
+    Ok(command)
 }
 
 /// Whether an option says what is done in place of a build.

@@ -134,28 +134,33 @@ fn targets<'a>(alloc: Global) -> Arg<'a> {
 
 /// The forms of the command line.
 pub(crate) fn command<'a>(alloc: Global, version: &'a str) -> Result<Command<'a>, AllocError> {
-    let command = Command::new(alloc, "redo")
+    let mut command = Command::new(alloc, "redo")
         .version(version)
         .about("Builds targets by their .do scripts, in parallel")
         .override_usage("redo -k [OPTIONS] [TARGETS]...")
         .after_help(
             "Options in REDOFLAGS, as -k -j 4, count where the command line doesn't say\notherwise",
-        )
-        .arg(jobs(alloc))?
-        .arg(keep_going(alloc))?
-        .arg(bundle(alloc))?
-        .arg(directory(alloc))?
-        .arg(top(alloc))?
-        .arg(dry_run(alloc))?
-        .arg(explain(alloc))?
-        .arg(report_format(alloc))?
-        .arg(with_rules(alloc))?
-        .arg(strict(alloc))?
-        .arg(take(alloc))?
-        .arg(sync(alloc))?
-        .arg(whichdo(alloc))?
-        .arg(verbose(alloc))?
-        .arg(quiet(alloc))?
-        .arg(targets(alloc))?;
+        );
+    let options = [
+        jobs(alloc),
+        keep_going(alloc),
+        bundle(alloc),
+        directory(alloc),
+        top(alloc),
+        dry_run(alloc),
+        explain(alloc),
+        report_format(alloc),
+        with_rules(alloc),
+        strict(alloc),
+        take(alloc),
+        sync(alloc),
+        whichdo(alloc),
+        verbose(alloc),
+        quiet(alloc),
+        targets(alloc),
+    ];
+    for option in options {
+        command = command.arg(option)?;
+    }
     commands::with_commands(alloc, command)
 }
