@@ -1,0 +1,27 @@
+-- What a report rests on: the names of a tree, and the contents of the files that it names.
+use Rattle.std.specs.Prelude.{◌≡◌, ℕ, true, List, All}
+use Rattle.std.specs.Arc.{arc_value}
+use Rattle.redo_tree.specs.Tree.{Tree, file_at, kind_of, node_at}
+use Rattle.redo_which.specs.Rule.{is_file}
+use Rattle.redo_record.specs.Entries.{is_entered}
+use Rattle.redo_record.specs.Paths.{IsAmong}
+use Rattle.redo_record.specs.declared.deps.Dep.{Dep}
+use Rattle.redo_record.specs.declared.deps.DepKind.TheVariants.{Change}
+use Rattle.redo_report.specs.declared.report.Report.{Report}
+
+-- two trees have the same names: at each path both have a directory, both have a file, or neither has anything
+abbrev pub AreNamedAlike : Tree → Tree → Type 0
+AreNamedAlike one two = (p : List ℕ) → kind_of (node_at two p) ≡ kind_of (node_at one p)
+
+-- two trees agree on these paths: what file is there, if any, has the same bytes in both
+abbrev pub AgreeOn : List (List ℕ) → Tree → Tree → Type 0
+AgreeOn paths one two = (p : List ℕ) → IsAmong paths p → file_at two p ≡ file_at one p
+
+-- these paths have each file of the tree that a record has under `change`: the .do file of its target, and the
+-- sources that the script declared
+abbrev pub HasReads : List (List ℕ) → Tree → List Dep → Type 0
+HasReads paths tree deps = (p : List ℕ) → is_entered deps Change p ≡ true → is_file tree p ≡ true → IsAmong paths p
+
+-- a report is covered by these paths: they have what each of its records has
+abbrev pub IsCovered : List (List ℕ) → Tree → Report → Type 0
+IsCovered paths tree report = All (λ row. HasReads paths tree (arc_value row.deps)) report.rows.items
