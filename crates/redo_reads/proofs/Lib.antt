@@ -3,4 +3,9 @@ pub mod SearchLemmas
 pub mod TargetLemmas
 pub mod BuildLemmas
 pub mod ReportLemmas
+pub mod PastLemmas
+pub mod CheckLemmas
+pub mod BookLemmas
+pub mod NewBookLemmas
+pub mod ResultLemmas
 pub mod ReadsExamples

@@ -1,12 +1,16 @@
 -- What a report rests on: the names of a tree, and the contents of the files that it names.
-use Rattle.std.specs.Prelude.{◌≡◌, ℕ, true, List, All}
+use Rattle.std.specs.Prelude.{◌≡◌, ℕ, true, List, [], ◌∷◌, All, flat_map}
 use Rattle.std.specs.Arc.{arc_value}
 use Rattle.redo_tree.specs.Tree.{Tree, file_at, kind_of, node_at}
+use Rattle.redo_which.specs.Candidates.{book_path}
 use Rattle.redo_which.specs.Rule.{is_file}
 use Rattle.redo_record.specs.Entries.{is_entered}
 use Rattle.redo_record.specs.Paths.{IsAmong}
 use Rattle.redo_record.specs.declared.deps.Dep.{Dep}
 use Rattle.redo_record.specs.declared.deps.DepKind.TheVariants.{Change}
+use Rattle.redo_book.specs.Book.{Record}
+use Rattle.redo_book.specs.declared.book.BookEntry.{BookEntry}
+use Rattle.redo_book.specs.declared.book.BookEntry.TheVariants as entries
 use Rattle.redo_report.specs.declared.report.Report.{Report}
 
 -- two trees have the same names: at each path both have a directory, both have a file, or neither has anything
@@ -25,3 +29,23 @@ HasReads paths tree deps = (p : List ℕ) → is_entered deps Change p ≡ true 
 -- a report is covered by these paths: they have what each of its records has
 abbrev pub IsCovered : List (List ℕ) → Tree → Report → Type 0
 IsCovered paths tree report = All (λ row. HasReads paths tree (arc_value row.deps)) report.rows.items
+
+-- Books
+
+-- the path of an entry under `change`
+abbrev pub changed_in : BookEntry → List (List ℕ)
+changed_in (entries.Change state path) = path ∷ []
+changed_in (entries.Create path) = []
+changed_in entries.Always = []
+
+-- the paths of a record that have a state there: its target, and each path under `change`
+abbrev pub named_by : Record → List (List ℕ)
+named_by r = r.target ∷ flat_map changed_in r.entries
+
+-- the path of a tree's book, and those that its records name
+abbrev pub named_in : List Record → List (List ℕ)
+named_in book = book_path ∷ flat_map named_by book
+
+-- these paths have each file of the tree that the book names, and the book itself
+abbrev pub HasBook : List (List ℕ) → Tree → List Record → Type 0
+HasBook paths tree book = (p : List ℕ) → IsAmong (named_in book) p → is_file tree p ≡ true → IsAmong paths p

@@ -1,11 +1,14 @@
 //! Laws of what a report rests on. The functions do nothing: each contract is a law.
 ghost use Rattle.std.specs.Prelude.{ℕ, List};
+ghost use Rattle.redo_record.specs.Paths.{IsAmong};
 ghost use Rattle.redo_report.specs.Reports.{IsReport};
 ghost use Rattle.redo_report.specs.declared.report.Report.{Report};
-ghost use Rattle.redo_rules.specs.Build.{rules_of};
+ghost use Rattle.redo_rules.specs.Build.{GivenView, rules_of};
+ghost use Rattle.redo_rules.specs.Results.{IsGiven, IsRefused, IsResult, IsResultOn};
 ghost use Rattle.redo_step.specs.Limits.{LimitsView};
-ghost use Rattle.redo_tree.specs.Tree.{Tree};
-ghost use Rattle.redo_reads.specs.Reads.{AgreeOn, AreNamedAlike, IsCovered};
+ghost use Rattle.redo_tree.specs.Tree.{IsTree, Tree};
+ghost use Rattle.redo_which.specs.Candidates.{book_path};
+ghost use Rattle.redo_reads.specs.Reads.{AgreeOn, AreNamedAlike, HasBook, IsCovered};
 
 use redo_step::more_answers;
 
@@ -17,6 +20,20 @@ pub fn reports_rest_on_what_they_name()
         (report : Report) → AreNamedAlike one two → AgreeOn paths one two →
         IsReport (rules_of one limits) request limit report → IsCovered paths one report →
         IsReport (rules_of two limits) request limit report }
+{
+    more_answers();
+}
+
+/// With a book, the report of a tree depends on the book and on what that names, too: it is that of each tree with
+/// the same names that agrees on those, with the same rows, begun scripts, files and new book. If the book is refused,
+/// it is so for the same line.
+pub fn results_rest_on_what_they_name()
+    ensures result { (one two : Tree) (request : List (List ℕ)) (limits : LimitsView) (given : GivenView)
+        (paths : List (List ℕ)) (result : Report) → IsTree one → IsTree two → IsGiven one request limits given →
+        AreNamedAlike one two → AgreeOn paths one two → HasBook paths one given.past.book →
+        IsResult given result → IsCovered paths given.past.sources result → IsResultOn two request limits result }
+    ensures refused { (one two : Tree) (paths : List (List ℕ)) (n : ℕ) → AgreeOn paths one two →
+        IsAmong paths book_path → IsRefused one n → IsRefused two n }
 {
     more_answers();
 }

@@ -1,0 +1,74 @@
+-- Two trees with the same names that agree on what the book names have the same past.
+use Rattle.std.proofs.Common.{◌≡◌, ℕ, Bool, true, false, not, cond, inl, inr, Option, Some, None}
+use Rattle.std.proofs.Common.{List, [], ◌∷◌, filter, flat_map, refl, sym, ap, ap₂, ◌∙◌}
+use Rattle.redo_names.specs.Paths.{is_among}
+use Rattle.redo_names.proofs.ListLemmas.{IsAmong-right}
+use Rattle.redo_tree.specs.Tree as tree_words
+use Rattle.redo_tree.specs.Tree.{IsTree, Node, Tree, bytes_of, file_at, is_file_among, kind_of, node_at, without}
+use Rattle.redo_tree.specs.declared.entries.Kind.{Kind}
+use Rattle.redo_tree.specs.declared.entries.Kind.TheVariants as kinds
+use Rattle.redo_tree.proofs.WithoutLemmas.{file_at-without, node_at-without, passing}
+use Rattle.redo_which.specs.Candidates.{book_path}
+use Rattle.redo_record.specs.Paths.{IsAmong}
+use Rattle.redo_book.specs.Book.{Record, targets_of}
+use Rattle.redo_past.specs.Past.{has_digest, is_generated, set_aside}
+use Rattle.redo_reads.specs.Reads.{AgreeOn, AreNamedAlike, HasBook, named_by, named_in}
+use Rattle.redo_reads.proofs.ReportLemmas.{agreed_file}
+
+-- Trees without some of their files
+
+-- of a kind, without the files among these
+abbrev kind_without : Bool → Kind → Kind
+kind_without out kinds.Nothing = kinds.Nothing
+kind_without out kinds.Dir = kinds.Dir
+kind_without out kinds.File = cond out kinds.Nothing kinds.File
+
+without_told : (paths : List (List ℕ)) (p : List ℕ) (n : Option Node) →
+    kind_of (passing (λ e. not (is_file_among paths e)) p n) ≡ kind_without (is_among paths p) (kind_of n)
+without_told paths p None = refl
+without_told paths p (Some tree_words.Directory) = refl
+without_told paths p (Some (tree_words.File bytes)) = by_place (is_among paths p)
+  where
+    by_place : (out : Bool) → kind_of (cond (not out) (Some (tree_words.File bytes)) None) ≡
+        cond out kinds.Nothing kinds.File
+    by_place true = refl
+    by_place false = refl
+
+module _ (one two : Tree) (is_one : IsTree one) (is_two : IsTree two) (aside : List (List ℕ)) where
+  pub without_alike : AreNamedAlike one two → AreNamedAlike (without one aside) (without two aside)
+  without_alike alike p =
+      ap kind_of (node_at-without two aside p is_two)
+      ∙ without_told aside p (node_at two p)
+      ∙ ap (kind_without (is_among aside p)) (alike p)
+      ∙ sym (without_told aside p (node_at one p))
+      ∙ ap kind_of (sym (node_at-without one aside p is_one))
+
+  pub without_agrees : (p : List ℕ) → file_at two p ≡ file_at one p →
+      file_at (without two aside) p ≡ file_at (without one aside) p
+  without_agrees p same =
+      file_at-without two aside p is_two
+      ∙ ap (λ (o : Option (List ℕ)). cond (is_among aside p) None o) same
+      ∙ sym (file_at-without one aside p is_one)
+
+-- What is set aside
+
+generated_same : (one two : Tree) (book : List Record) →
+    ((p : List ℕ) → IsAmong (flat_map named_by book) p → file_at two p ≡ file_at one p) →
+    filter (is_generated two) book ≡ filter (is_generated one) book
+generated_same one two [] same = refl
+generated_same one two (r ∷ rs) same =
+    ap₂ (λ (b : Bool) (others : List Record). cond b (r ∷ others) others)
+    (ap (λ (file : Option (List ℕ)). has_digest file r.state) (same r.target (inl refl)))
+    (generated_same one two rs (λ p m. same p (IsAmong-right (named_by r) (flat_map named_by rs) p m)))
+
+pub aside_same : (one two : Tree) (book : List Record) →
+    ((p : List ℕ) → IsAmong (named_in book) p → file_at two p ≡ file_at one p) →
+    set_aside two book ≡ set_aside one book
+aside_same one two book same =
+    ap (λ (rs : List Record). book_path ∷ targets_of rs) (generated_same one two book (λ p m. same p (inr m)))
+
+-- all that the book names is the same in both trees
+pub named_same : (paths : List (List ℕ)) (one two : Tree) (book : List Record) → AreNamedAlike one two →
+    AgreeOn paths one two → HasBook paths one book → (p : List ℕ) → IsAmong (named_in book) p →
+    file_at two p ≡ file_at one p
+named_same paths one two book alike agree has p m = agreed_file paths one two alike agree p (has p m)
