@@ -4,6 +4,7 @@ a seed and its number: SEED names another seed than 1, COUNT how many are made, 
 import os
 import random
 import re
+from functools import cache
 from posixpath import dirname, relpath
 
 from lib.reports import BOOK, as_bytes, candidates
@@ -28,6 +29,12 @@ def named(what, number):
 def chance_of(what):
     """The draws of a tree, or of something else by its name."""
     return random.Random(f"{SEED} {what}")
+
+
+@cache
+def from_directory(path, dir):
+    """A path of a tree, as it is read in a directory."""
+    return relpath("/" + path, "/" + dir)
 
 
 class Tree:
@@ -56,7 +63,7 @@ class Tree:
 
     def word(self, path, dir):
         """A word that names a path in a script of a directory."""
-        text = relpath("/" + path, "/" + dir)
+        text = from_directory(path, dir)
         return text if re.fullmatch(r"[A-Za-z0-9_./-]+", text) else f"'{text}'"
 
     def behind(self, target):
