@@ -1,14 +1,22 @@
 /* A library that is loaded into the program before the C library. It counts the program's calls by their kind, and
    refuses those of one kind from one call to another, counted from 1, with an error number, or with the answer 0 where
    that is 0; past all errors it is 4096 and the number of a signal, which the program gets at the call, before it is
-   made. And it lets a read or a write move so many bytes at most: REFUSE is "kind first last error most". The counts
-   stand in the file that COUNTS names, however the program ends: the calls of each kind, and then the refused ones. It
-   takes in no header, since the kit's compiler comes without. */
+   made. And it lets a read or a write move so many bytes at most, but for reads where writes are refused, and writes
+   where reads are: REFUSE is "kind first last error most". The counts stand in the file that COUNTS names, however the
+   program ends: the calls of each kind, and then the refused ones. It takes in no header, since the kit's compiler comes
+   without.
+
+   Where AGAIN names a socket, the program doesn't begin by itself. For each message on the socket, which has what REFUSE
+   has and the words of a command line, a copy of the process runs the program, from before `main`, as if it had just been
+   started; the answer is its wait status, and the counts. So a run costs no loading, which is most of what a short one
+   takes. */
 
 typedef unsigned long size_t;
 typedef long ssize_t;
 
 enum { SIGNALS = 4096 };
+/* The most bytes of a message, and the most words in it. */
+enum { MESSAGE = 1 << 17, WORDS = 4096 };
 enum { MEMORY, THREAD, OPEN, LOOK, LIST, READ, WRITE, SAY, RENAME, REMOVE, SYNC, LOCK, MODE, KINDS };
 
 /* Of the C library. */
@@ -18,10 +26,13 @@ extern void *dlsym(void *, const char *), *mmap(void *, size_t, int, int, int, l
 extern char *getenv(const char *);
 extern unsigned long strtoul(const char *, char **, int);
 extern int *__errno_location(void);
-extern int getpid(void), kill(int, int);
+extern int getpid(void), kill(int, int), fork(void), waitpid(int, int *, int), close(int);
+extern ssize_t recv(int, void *, size_t, int), send(int, const void *, size_t, int);
+extern void _exit(int);
 #define NEXT ((void *)-1l)
 #define READ_AND_WRITE 3
 #define SHARED 1
+#define ANONYMOUS 32
 #define FOR_BOTH 2
 
 static unsigned long *counts, kind, first, last, error, most;
@@ -31,6 +42,16 @@ static int (*next_unlink)(const char *), (*next_pthread_create)(void *, const vo
 static ssize_t (*next_getdents64)(int, void *, size_t), (*next_read)(int, void *, size_t);
 static ssize_t (*next_write)(int, const void *, size_t);
 static int (*next_fsync)(int), (*next_flock)(int, int), (*next_fchmod)(int, unsigned);
+
+/* Reads the numbers of REFUSE. Answers what stands behind them. */
+static char *take(char *told) {
+    kind = strtoul(told, &told, 10);
+    first = strtoul(told, &told, 10);
+    last = strtoul(told, &told, 10);
+    error = strtoul(told, &told, 10);
+    most = strtoul(told, &told, 10);
+    return told;
+}
 
 __attribute__((constructor)) static void begin(void) {
     char *told = getenv("REFUSE"), *file = getenv("COUNTS");
@@ -48,11 +69,7 @@ __attribute__((constructor)) static void begin(void) {
     next_fchmod = dlsym(NEXT, "fchmod");
     if (told == 0 || file == 0)
         return;
-    kind = strtoul(told, &told, 10);
-    first = strtoul(told, &told, 10);
-    last = strtoul(told, &told, 10);
-    error = strtoul(told, &told, 10);
-    most = strtoul(told, &told, 10);
+    take(told);
     counts = mmap(0, 8 * (KINDS + 1), READ_AND_WRITE, SHARED, next_open(file, FOR_BOTH, 0), 0);
 }
 
@@ -108,17 +125,20 @@ ssize_t getdents64(int dir, void *names, size_t size) { return refused(LIST) ? -
 
 static ssize_t answer(void) { return error == 0 ? 0 : -1; }
 
-static size_t least(size_t count) { return count < most ? count : most; }
+static size_t least(size_t count, unsigned long this) {
+    int is_other = this != kind && (kind == READ || kind == WRITE);
+    return count < most || is_other ? count : most;
+}
 
 ssize_t read(int file, void *bytes, size_t count) {
-    return refused(READ) ? answer() : next_read(file, bytes, least(count));
+    return refused(READ) ? answer() : next_read(file, bytes, least(count, READ));
 }
 
 /* Standard error is a kind of its own, and gets its lines whole. */
 ssize_t write(int file, const void *bytes, size_t count) {
     if (file == 2)
         return refused(SAY) ? answer() : next_write(file, bytes, count);
-    return refused(WRITE) ? answer() : next_write(file, bytes, least(count));
+    return refused(WRITE) ? answer() : next_write(file, bytes, least(count, WRITE));
 }
 
 int rename(const char *from, const char *to) { return refused(RENAME) ? -1 : next_rename(from, to); }
@@ -130,3 +150,52 @@ int fsync(int file) { return refused(SYNC) ? -1 : next_fsync(file); }
 int flock(int file, int how) { return refused(LOCK) ? -1 : next_flock(file, how); }
 
 int fchmod(int file, unsigned mode) { return refused(MODE) ? -1 : next_fchmod(file, mode); }
+
+/* The words of a message, each behind a zero byte and with one behind it, as an argument list. */
+static int words_in(char *at, char *end, char **argv) {
+    int argc = 0;
+    while (at < end && argc < WORDS) {
+        argv[argc++] = at;
+        while (*at++)
+            ;
+    }
+    argv[argc] = 0;
+    return argc;
+}
+
+/* Runs the program once for each message. A copy comes back with its command line; at the end of all, nobody does. */
+static int served(int socket, char **argv) {
+    static char message[MESSAGE];
+    for (;;) {
+        struct { int status; unsigned long counts[KINDS + 1]; } answer = {0};
+        ssize_t length = recv(socket, message, sizeof message - 1, 0);
+        if (length <= 0)
+            _exit(0);
+        message[length] = 0;
+        for (int it = 0; it <= KINDS; it++)
+            counts[it] = 0;
+        int child = fork();
+        if (child == 0) {
+            close(socket);
+            return words_in(take(message) + 1, message + length, argv);
+        }
+        if (child < 0 || waitpid(child, &answer.status, 0) != child)
+            _exit(1);
+        for (int it = 0; it <= KINDS; it++)
+            answer.counts[it] = counts[it];
+        send(socket, &answer, sizeof answer, 0);
+    }
+}
+
+/* What a program begins with. */
+int __libc_start_main(void *main, int argc, char **argv, void *init, void *fini, void *at_end, void *stack) {
+    static char *words[WORDS + 1];
+    int (*next)(void *, int, char **, void *, void *, void *, void *) = dlsym(NEXT, "__libc_start_main");
+    char *socket = getenv("AGAIN");
+    if (socket != 0) {
+        counts = mmap(0, 8 * (KINDS + 1), READ_AND_WRITE, SHARED | ANONYMOUS, -1, 0);
+        argc = served(strtoul(socket, 0, 10), words);
+        argv = words;
+    }
+    return next(main, argc, argv, init, fini, at_end, stack);
+}
