@@ -215,9 +215,13 @@ class Case(unittest.TestCase):
         if found != expected:
             self.wrong(name, f"{what} is\n  {shown(found)}\nexpected\n  {shown(expected)}")
 
+    def ran(self, words, text, **more):
+        """What a run of the program comes to."""
+        return run(words, text, **more)
+
     def answers(self, name, words, text, status, out, said=b"", **more):
         """Runs the program, and compares all that it answered, where something is expected of it."""
-        found = run(words, text, **more)
+        found = self.ran(words, text, **more)
         self.equal(name, "the exit status", found.status, status)
         self.equal(name, "standard output", found.out, out)
         self.equal(name, "standard error", found.said, said)
@@ -231,7 +235,7 @@ class Case(unittest.TestCase):
 
     def came_to(self, name, jobs, tree, requested):
         """Makes a run over a tree, which is to come to a report and to say nothing else."""
-        return self.built(name, run(["-j", jobs, "-k", "--bundle", "--", *requested], bundle(tree)))
+        return self.built(name, self.ran(["-j", jobs, "-k", "--bundle", "--", *requested], bundle(tree)))
 
     def built(self, name, found):
         """What a run over a bundle has built, which is to come to a report and to say nothing else."""

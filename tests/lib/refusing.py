@@ -159,3 +159,10 @@ class RefusingCase(Case):
     def setUpClass(cls):
         cls.refusing = Refusing()
         cls.addClassCleanup(cls.refusing.close)
+
+
+class SweepingCase(RefusingCase):
+    """Tests that make so many runs that each of them, refused calls or not, is one of a program that is loaded."""
+
+    def ran(self, words, text, **more):
+        return self.refusing.plain(words, text, **more)
