@@ -13,7 +13,7 @@ from collections import namedtuple
 from threading import Timer
 
 from lib.reports import BOOK, all_bytes, as_bytes, became, book_of, kept, new_book, parts, states, with_book, without_begun
-from lib.tracked import TOP, room, room_in_memory
+from lib.tracked import TOP, room, room_in_memory, room_on_disk
 
 # What a run came to: its exit status, and what it wrote on standard output and on standard error.
 Run = namedtuple("Run", "status out said")
@@ -72,12 +72,13 @@ def prove_sources(place):
 
 
 def measured(words, text, seconds, **more):
-    """Runs the program as `run` does, on a text or its pieces. Answers what it came to, and what it took. It is killed
-    after so many seconds of wall time. The memory that it held is never less than what this process held before."""
+    """Runs the program as `run` does, on a text or a file. Answers what it came to, and what it took. It is killed after
+    so many seconds of wall time. The memory that it held is never less than what this process held before."""
     file = tempfile.TemporaryFile
-    with file() as input, file() as out, file() as said:
-        for piece in [text] if isinstance(text, bytes) else text:
-            input.write(piece)
+    with file() as made, file() as out, file() as said:
+        input = made if isinstance(text, bytes) else text
+        if input is made:
+            made.write(text)
         input.seek(0)
         child = subprocess.Popen([REDO, *words], stdin=input, stdout=out, stderr=said, **more)
         late = Timer(seconds, os.kill, (child.pid, signal.SIGKILL))
