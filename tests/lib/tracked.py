@@ -36,14 +36,19 @@ def git(place, *words, **more):
     return done.stdout.decode()
 
 
-def room():
+def room_on_disk():
     """A new directory, for `with`: it is removed at the end."""
     return tempfile.TemporaryDirectory()
 
 
+def room():
+    """The same in memory, where the system has a place for it: beside other work a test that waits for the disk takes
+    many times as long. Those that are about directories stay on the disk."""
+    return room_in_memory(runs_programs=True)
+
+
 def room_in_memory(runs_programs=False):
-    """The same in memory, where the system has a place for it: a test that waits for the disk often takes long. Some
-    systems have one from which no program may be run."""
+    """The same, also where no program may be run from there, if the test runs none."""
     place = "/dev/shm"
     is_good = os.access(place, os.W_OK) and not (runs_programs and os.statvfs(place).f_flag & os.ST_NOEXEC)
     return tempfile.TemporaryDirectory(dir=place if is_good else None)
