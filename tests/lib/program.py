@@ -28,6 +28,8 @@ Took = namedtuple("Took", "seconds mib")
 SPINNING = 5
 
 
+# A run that takes so many seconds hangs, also on a machine that does much else.
+LATEST = 300
 # Whether a script is to say more than what failed.
 IS_TOLD = bool({"-v", "--verbose"} & {*sys.argv[1:]})
 
@@ -52,7 +54,7 @@ def run(words, text=b"", program=REDO, **more):
     """Runs the program on the words of a command line, with a text on its standard input."""
     if "stdin" not in more:
         more["input"] = text
-    more = {"stdout": subprocess.PIPE, "stderr": subprocess.PIPE, "timeout": 60, **more}
+    more = {"stdout": subprocess.PIPE, "stderr": subprocess.PIPE, "timeout": LATEST, **more}
     done = subprocess.run([program, *words], check=False, **more)
     return Run(done.returncode, done.stdout, done.stderr)
 

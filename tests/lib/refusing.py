@@ -15,7 +15,7 @@ from errno import EAGAIN, EIO, ENOMEM, ENOSPC, EPERM, EWOULDBLOCK
 from signal import SIGKILL, SIGSTOP
 
 sys.dont_write_bytecode = True
-from lib.program import REDO, Case, Run, run
+from lib.program import LATEST, REDO, Case, Run, run
 
 # The kinds of calls, as `refuse.c` numbers them, each with the error that a refused one answers.
 KINDS = {
@@ -44,8 +44,6 @@ Counts = namedtuple("Counts", [*KINDS, "refused"])
 ANSWER = struct.Struct(f"=i4x{len(Counts._fields)}Q")
 # The library takes no longer command lines, in bytes and in words.
 MOST_BYTES, MOST_WORDS = 1 << 16, 4000
-# A run that takes so many seconds is ended.
-LATEST = 60
 
 
 def default_signals():
