@@ -213,27 +213,6 @@ where
     Ok(run)
 }
 
-/// Builds the targets of a directory, which stays as it is.
-fn try_dir<H: Runtime + Threads + Wait + Sync, W: Write + Drop>(
-    host: &mut Host<'_, H, Progress<'_>>,
-    dir: &str,
-    build: &BuildOptions,
-    writer: &mut Behind<'_, Plain<BufWriter<W>>>,
-    cause: &mut Cause,
-) -> Result<DirBuild, Fault>
-where
-    H::File: Send + Lockable,
-    H::Dir: Send,
-    requires writer { writer.old.out.broken ≡ false }
-    requires permit { IsUnused host.old.permit }
-{
-    let dir = SystemDir::new(host.rt, host.alloc(), dir);
-    let options = options_for(host, &dir, build, cause)?;
-    let run = preview_dir(host, &dir, writer, &options, cause)?;
-    let taken = options.taken;
-    Ok(DirBuild { run, taken })
-}
-
 /// Builds the targets of a directory.
 fn build_dir<H: Runtime + Threads + Wait + Sync, W: Write + Drop>(
     host: &mut Host<'_, H, Progress<'_>>,
@@ -249,7 +228,11 @@ where
     requires permit { IsUnused host.old.permit }
 {
     if build.storing == Storing::Nothing {
-        return try_dir(host, dir, build, writer, cause);
+        let dir = SystemDir::new(host.rt, host.alloc(), dir);
+        let options = options_for(host, &dir, build, cause)?;
+        let run = preview_dir(host, &dir, writer, &options, cause)?;
+        let taken = options.taken;
+        return Ok(DirBuild { run, taken });
     }
     let lock = lock(host.rt, host.alloc(), dir, cause)?;
     let synced = build.storing == Storing::Synced;
