@@ -14,10 +14,11 @@ use std::thread::Threads;
 
 const HELLO: &str = "file 8 hello.do\necho hi\n\nend\n";
 
-/// Takes one byte per call, and fails at one call, counted from 0: with an error, or by taking nothing.
+/// Takes at most three bytes per call, and fails at one call, counted from 0: with an error, or by taking nothing.
 #[derive(Drop)]
 struct Sink {
     text: Vec<u8>,
+    calls: usize,
     fails_at: usize,
     takes_nothing: bool,
     broken: bool,
@@ -29,10 +30,11 @@ impl ByteOut for Sink {
     ghost has_failed = { λ s. s.broken };
 
     fn write(&mut self, buf: &[u8]) -> Result<usize, Broken> {
-        let Some(byte) = buf.first() else {
+        if buf.is_empty() {
             return Ok(0);
-        };
-        if self.text.len() == self.fails_at || self.text.push(*byte).is_err() {
+        }
+        let front = buf.get(..3).unwrap_or(buf);
+        if self.calls == self.fails_at || self.text.extend_from_slice(front).is_err() {
             self.broken = true;
             return if self.takes_nothing {
                 Ok(0)
@@ -40,7 +42,8 @@ impl ByteOut for Sink {
                 Err(Broken)
             };
         }
-        Ok(1)
+        self.calls = self.calls.saturating_add(1);
+        Ok(front.len())
     }
 
     fn failed(&self) -> bool {
@@ -53,6 +56,7 @@ fn make_sink(alloc: Global, fails_at: usize, takes_nothing: bool) -> Sink
 {
     Sink {
         text: Vec::new(alloc),
+        calls: 0,
         fails_at,
         takes_nothing,
         broken: false,
@@ -86,21 +90,20 @@ fn run_to<R: Threads + Wait + Sync, W: ByteOut>(
     }
 }
 
-/// The whole report of `hello`.
+/// A sink that didn't fail, with the whole report of `hello`.
 fn whole_report<R: Threads + Wait + Sync>(
     host: &mut Host<'_, R, NoObserver>,
-) -> Result<Vec<u8>, Fail>
+) -> Result<Sink, Fail>
     requires { IsUnused host.old.permit }
 {
-    let mut whole = Plain::new(Vec::new(host.alloc()));
-    if run_to(host, &mut whole)? != Ok(Exit::Good) {
+    let mut sink = make_sink(host.alloc(), usize::MAX, false);
+    if run_to(host, &mut sink)? != Ok(Exit::Good) {
         Err("hello isn't built")?;
     }
-    let Plain { stream, broken: _ } = whole;
-    Ok(stream)
+    Ok(sink)
 }
 
-/// Whether a run whose writer fails at this call says so, and has written as many bytes of the report.
+/// Whether a run whose writer fails at this call says so, and has written what as many calls take of the report.
 fn is_told<R: Threads + Wait + Sync>(
     host: &mut Host<'_, R, NoObserver>,
     report: &[u8],
@@ -111,18 +114,18 @@ fn is_told<R: Threads + Wait + Sync>(
 {
     let mut sink = make_sink(host.alloc(), call, takes_nothing);
     let outcome = run_to(host, &mut sink)?;
-    let is_front = sink.text.len() == call && report.starts_with(&sink.text);
+    let is_front = sink.calls == call && report.starts_with(&sink.text);
     Ok(is_front && outcome == Err(RunIoFault::Device))
 }
 
 #[test]
 fn a_writer_may_fail_at_any_call(rt: HostRuntime) -> Result<(), Fail> {
-    let report = whole_report(&mut host_of(&rt))?;
-    assert!(rt; report.starts_with(b"built 3 hello\n"));
-    for call in 0..report.len() {
+    let whole = whole_report(&mut host_of(&rt))?;
+    assert!(rt; whole.text.starts_with(b"built 3 hello\n"));
+    for call in 0..whole.calls {
         for takes_nothing in [false, true] {
             assert!(rt;
-                is_told(&mut host_of(&rt), &report, call, takes_nothing)?,
+                is_told(&mut host_of(&rt), &whole.text, call, takes_nothing)?,
                 "call {call}"
             );
         }
