@@ -1,39 +1,35 @@
--- What is wrong with a text is never want of memory.
-use Rattle.std.proofs.Common.{◌≡◌, ◌≢◌, ◌⊎◌, ℕ, Bool, true, false, if◌then◌else◌, List, [], ◌∷◌, Option, Some, None}
-use Rattle.std.proofs.Common.{Result, Ok, Err, refl, inl, inr}
-use Rattle.std.specs.Prelude.{codes, length, nat_lt, ◌==◌}
+-- What is wrong with commands is never want of memory.
+use Rattle.std.proofs.Common.{◌≡◌, ◌≢◌, ℕ, Bool, true, false, if◌then◌else◌, List, [], ◌∷◌, Option, Some, None}
+use Rattle.std.proofs.Common.{Result, Ok, Err}
+use Rattle.std.specs.Prelude.{codes, length, nat_lt}
 use Rattle.redo_script.specs.declared.fault.ScriptFault.{ScriptFault}
-use Rattle.redo_script.specs.declared.fault.Reason.TheVariants as reasons
 use Rattle.redo_script.specs.Faults.{◌>>=◌}
 use Rattle.redo_script.specs.Syntax.{Script}
-use Rattle.redo_script.specs.Tokens.{Token, word, semicolon, newline, redirect, line_after}
-use Rattle.redo_script.specs.Grammar.{Item, is_named, command_form, condition_form, name_of, is_bound, knows_word}
-use Rattle.redo_script.specs.Grammar.{knows}
-use Rattle.redo_script.specs.Parsing.{PartialCommand, Phase, at_command, in_command, behind_if, in_condition, before_then}
-use Rattle.redo_script.specs.Parsing.{behind_fi, behind_for, behind_name, in_words, before_do, behind_done, Open, open_if}
-use Rattle.redo_script.specs.Parsing.{open_loop, ifs_in, names_in, Parser, is_empty, is_one_of, commands, words_outside}
-use Rattle.redo_script.specs.Parsing.{loop_words, if_words, or_shape, if_known, is_unfinished, no_redirection}
-use Rattle.redo_script.specs.Parsing.{ended_command, ended_condition, with_command, with_condition, at_else, at_fi, at_done}
-use Rattle.redo_script.specs.Parsing.{first_word, misplaced, loop_named, next_token, unless_open, end_by_phase, parse_on}
-use Rattle.redo_script.specs.Parsing.{statements_of}
-use Rattle.redo_script.specs.Reading.{tokens_of}
-use Rattle.redo_script.specs.Places.{StopsAtByte, StopsAtEnd}
-use Rattle.redo_script.specs.Texts.{nul_from, interpreter_is_fit, interpreter_of, script_in}
-use Rattle.redo_script.proofs.StopTokenLemmas.{stops_tokens}
+use Rattle.redo_script.specs.Tokens.{Token, word, semicolon, newline, redirect}
+use Rattle.redo_script.specs.Forms.{Item, is_named, command_form, condition_form, name_of, is_bound, knows_word}
+use Rattle.redo_script.specs.Forms.{knows}
+use Rattle.redo_script.specs.Parsing.{PartialCommand, Phase, at_command, in_command, behind_if, in_condition}
+use Rattle.redo_script.specs.Parsing.{before_then, behind_fi, behind_for, behind_name, in_words, before_do}
+use Rattle.redo_script.specs.Parsing.{behind_done, Open, open_if, open_loop, ifs_in, names_in, Parser, is_empty}
+use Rattle.redo_script.specs.Parsing.{is_one_of, commands, words_outside, loop_words, if_words, or_shape, if_known}
+use Rattle.redo_script.specs.Parsing.{is_unfinished, no_redirection, ended_command, ended_condition, with_command}
+use Rattle.redo_script.specs.Parsing.{with_condition, at_else, at_fi, at_done, first_word, misplaced, loop_named}
+use Rattle.redo_script.specs.Parsing.{next_token, unless_open, end_by_phase, parse_on, statements_of}
+use Rattle.redo_script.specs.declared.fault.Reason.TheVariants as reasons
 
-abbrev Blames : {A : Type 0} → Result A ScriptFault → Type 0
+abbrev pub Blames : {A : Type 0} → Result A ScriptFault → Type 0
 Blames (Ok x) = Unit {0}
 Blames (Err f) = f.why ≢ reasons.Memory
 
-by_if : {A : Type 0} (t : Bool) (x y : Result A ScriptFault) → Blames x → Blames y → Blames (if t then x else y)
+pub by_if : {A : Type 0} (t : Bool) (x y : Result A ScriptFault) → Blames x → Blames y → Blames (if t then x else y)
 by_if true x y f g = f
 by_if false x y f g = g
 
-bound : {A C : Type 0} (m : Result A ScriptFault) (f : A → Result C ScriptFault) → Blames m → ((a : A) → Blames (f a)) → Blames (m >>= f)
+pub bound : {A C : Type 0} (m : Result A ScriptFault) (f : A → Result C ScriptFault) → Blames m → ((a : A) → Blames (f a)) → Blames (m >>= f)
 bound (Ok a) f h k = k a
 bound (Err e) f h k = h
 
-blamed : {A : Type 0} (m : Result A ScriptFault) (fault : ScriptFault) → Blames m → m ≡ Err fault → fault.why ≢ reasons.Memory
+pub blamed : {A : Type 0} (m : Result A ScriptFault) (fault : ScriptFault) → Blames m → m ≡ Err fault → fault.why ≢ reasons.Memory
 blamed m fault h e = rw e at h
 
 formed : {A : Type 0} (l : ℕ) (ill : Bool) (o : Option A) (known : Bool) → Blames (or_shape l ill o >>= if_known l known)
@@ -158,28 +154,6 @@ parse_blames (t ∷ ts) p = bound (next_token p t) _ (token_blames p.phase p.ope
 pub of_commands : (p : Parser) (ts : List Token) (fault : ScriptFault) → parse_on p ts ≡ Err fault → fault.why ≢ reasons.Memory
 of_commands p ts fault e = blamed (parse_on p ts) fault (parse_blames ts p) e
 
-statements_blame : (ts : List Token) → Blames (statements_of ts)
+pub statements_blame : (ts : List Token) → Blames (statements_of ts)
 unfolding statements_of
 statements_blame ts = parse_blames ts _
-
-of_tokens : (text : List ℕ) (fault : ScriptFault) → StopsAtByte text fault ⊎ StopsAtEnd text fault → fault.why ≢ reasons.Memory
-of_tokens text fault (inl s) = rw s.fault_is (λ e. cc e)
-of_tokens text fault (inr s) = elim s.fault_is [ inl e ↦ rw e.1 (λ e. cc e) | inr q ↦ rw q.1.fault_is (λ e. cc e) ]
-
-tokens_blame : (text : List ℕ) (read : Result (List Token) ScriptFault) → tokens_of text ≡ read → Blames read
-tokens_blame text (Ok ts) e = tt
-tokens_blame text (Err f) e = of_tokens text f (stops_tokens text f e)
-
-nul_blames : (text : List ℕ) (line : ℕ) → Blames (nul_from line text)
-nul_blames [] line = tt
-nul_blames (b ∷ bs) line = by_if (b == 0) _ _ (λ e. cc e) (nul_blames bs (line_after line b))
-
-text_blames : (text : List ℕ) → Blames (script_in text)
-unfolding script_in
-text_blames text =
-    bound (nul_from 1 text) _ (nul_blames text 1) (λ none.
-    bound (interpreter_of text) _ (by_if (interpreter_is_fit text) _ _ tt (λ e. cc e)) (λ fit.
-    bound (tokens_of text) _ (tokens_blame text (tokens_of text) refl) (λ ts. statements_blame ts)))
-
-pub of_texts : (text : List ℕ) (fault : ScriptFault) → script_in text ≡ Err fault → fault.why ≢ reasons.Memory
-of_texts text fault e = blamed (script_in text) fault (text_blames text) e

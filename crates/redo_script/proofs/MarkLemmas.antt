@@ -1,15 +1,15 @@
 -- Lines of a text, and bytes of one line.
-use Rattle.std.proofs.Common.{◌≡◌, ℕ, zero, suc, ◌+◌, ◌-◌, ◌≤◌, ◌<◌, Bool, true, false, ◌==◌, if◌then◌else◌, List, [], ◌∷◌}
-use Rattle.std.proofs.Common.{◌++◌, length, take, drop, get_or, refl, sym, ap, ◌∙◌, subst, inl, inr, add-one, arith, append_assoc, All}
+use Rattle.std.proofs.Common.{◌≡◌, ℕ, zero, suc, ◌+◌, ◌-◌, ◌≤◌, ◌<◌, Bool, true, false, ◌==◌, if◌then◌else◌, List, []}
+use Rattle.std.proofs.Common.{◌∷◌, ◌++◌, length, take, drop, get_or, refl, sym, ap, ◌∙◌, subst, inl, inr, add-one}
+use Rattle.std.proofs.Common.{arith, append_assoc, All}
 use Rattle.std.proofs.Math.Seq.{drop-cons, take-suc}
 use Rattle.std.proofs.lemmas.Bool.{cases_Bool}
 use Rattle.std.proofs.lemmas.List.{take-append-drop, length-take-le, nil_from_length, take_rest}
 use Rattle.std.proofs.lemmas.List.Elements.{All-push}
 use Rattle.redo_script.specs.declared.places.Span.{Span}
 use Rattle.redo_script.specs.Tokens.{line_after}
-use Rattle.redo_script.specs.Places.{line_from}
+use Rattle.redo_script.specs.Marks.{line_from, IsInLine, IsInOneLine, AreInOrder}
 use Rattle.redo_script.specs.Texts.{first_line}
-use Rattle.redo_script.specs.Marks.{IsInLine, IsInOneLine, AreInOrder}
 
 -- the first line is no longer than the text
 pub first_fits : (xs : List ℕ) → length (first_line xs) ≤ length xs

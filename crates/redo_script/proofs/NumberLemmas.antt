@@ -1,12 +1,12 @@
 -- Numbers that are too large.
-use Rattle.std.proofs.Common.{◌≡◌, ℕ, ◌+◌, ◌*◌, ◌-◌, ◌<◌, Bool, true, false, if◌then◌else◌, [], ◌∷◌, Option, None, refl}
-use Rattle.std.proofs.Common.{arith, inl, inr}
+use Rattle.std.proofs.Common.{◌≡◌, ℕ, ◌+◌, ◌*◌, ◌-◌, ◌<◌, Bool, true, false, if◌then◌else◌, [], ◌∷◌, Option, None}
+use Rattle.std.proofs.Common.{refl, arith, inl, inr}
 use Rattle.std.specs.Prelude.{nat_le}
 use Rattle.std.proofs.lemmas.Bool.{cases_Bool}
 use Rattle.std.proofs.lemmas.Bool.Decides.{nat_tests}
 use Rattle.redo_script.specs.Bytes.{is_digit}
 use Rattle.redo_script.specs.Syntax.{byte, quoted, bare, named_quoted, named_bare, Word}
-use Rattle.redo_script.specs.Grammar.{at_most, digits_value}
+use Rattle.redo_script.specs.Forms.{at_most, digits_value}
 use Rattle.redo_script.specs.inside.Parser.{status_on}
 
 not_le : (n : ℕ) → 255 < n → nat_le n 255 ≡ false

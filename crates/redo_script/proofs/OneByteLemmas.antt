@@ -1,21 +1,18 @@
 -- What one byte does to reading, by the place where it stands.
 use Rattle.std.proofs.Common.{◌≡◌, ◌≢◌, ℕ, suc, Bool, true, false, ◌&&◌, ◌||◌, ◌==◌, List, [], ◌∷◌, ◌++◌, Ok, Some}
-use Rattle.std.proofs.Common.{refl, sym, ap, add-one, ◌∙◌, append_assoc, inl, inr}
+use Rattle.std.proofs.Common.{refl, sym, ap, add-one, inl, inr}
 use Rattle.std.specs.Prelude.{codes}
 use Rattle.std.proofs.lemmas.List.{append-nil}
-use Rattle.std.proofs.lemmas.Bool.{ne_eqb, or_parts, cases_eq}
-use Rattle.redo_script.specs.declared.fault.Reason.TheVariants as reasons
+use Rattle.std.proofs.lemmas.Bool.{ne_eqb, cases_eq}
 use Rattle.redo_script.specs.declared.lexer.Mode.{Mode}
-use Rattle.redo_script.specs.declared.lexer.Mode.TheVariants as modes
 use Rattle.redo_script.specs.declared.ast.Parameter.{Parameter}
-use Rattle.redo_script.specs.Bytes.{is_digit, is_letter, is_among, is_plain, is_blank, begins_name, continues_name}
-use Rattle.redo_script.specs.Faults.{fault_at}
-use Rattle.redo_script.specs.Syntax.{Symbol, byte, quoted, bare, named_quoted, named_bare}
-use Rattle.redo_script.specs.Tokens.{Token, word, semicolon, newline, redirect, Names, one, two, three, begins_word}
-use Rattle.redo_script.specs.Tokens.{ends_word, is_escaped, line_after, digits_then, AtWordEnd, IsNotBefore}
-use Rattle.redo_script.specs.Tokens.{AtNameEnd, EndsName, ends_here, one_more}
+use Rattle.redo_script.specs.Bytes.{is_digit, is_letter, is_among, is_plain, is_blank, begins_name}
+use Rattle.redo_script.specs.Syntax.{Symbol, byte, quoted}
+use Rattle.redo_script.specs.Tokens.{Token, word, semicolon, newline, begins_word, is_escaped, line_after}
+use Rattle.redo_script.specs.Tokens.{digits_then, AtWordEnd, IsNotBefore}
 use Rattle.redo_script.specs.Reading.{Reader, next_byte, at_end, read_on, parameter_named}
 use Rattle.redo_script.proofs.BitLemmas.{not_same, not_in, no_number}
+use Rattle.redo_script.specs.declared.lexer.Mode.TheVariants as modes
 
 -- reading at this mode and line
 abbrev pub at : Mode → ℕ → Reader → Reader
@@ -36,10 +33,6 @@ byte_more r b = record r { is_number = r.is_number && is_digit b; word = r.word 
 
 abbrev pub word_begun : ℕ → Reader → Reader
 word_begun l r = record r { word_line = l; is_plain = true; is_number = true; word = [] }
-
--- within a word that isn't plain bytes alone
-abbrev pub ill : Reader → Reader
-ill r = record r { is_plain = false; is_number = false }
 
 abbrev pub opened_at : ℕ → Reader → Reader
 opened_at l r = record r { opened = l; is_plain = false; is_number = false }
@@ -64,10 +57,6 @@ pub gap_semicolon : (l : ℕ) (r : Reader) (b : ℕ) (bs : List ℕ) → b ≡ 5
 unfolding read_on next_byte
 gap_semicolon l r b bs e = rw e refl
 
-pub gap_redirect : (l : ℕ) (r : Reader) (b : ℕ) (bs : List ℕ) → b ≡ 62 → read_on (at modes.Gap l r) (b ∷ bs) ≡ read_on (at modes.Redirect l r) bs
-unfolding read_on next_byte
-gap_redirect l r b bs e = rw e refl
-
 pub gap_comment : (l : ℕ) (r : Reader) (b : ℕ) (bs : List ℕ) → b ≡ 35 → read_on (at modes.Gap l r) (b ∷ bs) ≡ read_on (at modes.Comment l r) bs
 unfolding read_on next_byte
 gap_comment l r b bs e = rw e refl
@@ -83,27 +72,10 @@ gap_word l r b bs e =
     let e35 : (b == 35) ≡ false = not_same begins_word b 35 refl e in
     rw (e32, e9, e10, e59, e62, e35) refl
 
-pub gap_other : (l : ℕ) (r : Reader) (b : ℕ) (bs : List ℕ) → is_blank b ≡ false → (b == 10) ≡ false → (b == 59) ≡ false → (b == 62) ≡ false → (b == 35) ≡ false → begins_word b ≡ false → read_on (at modes.Gap l r) (b ∷ bs) ≡ fault_at l reasons.Unsupported
-unfolding read_on next_byte
-gap_other l r b bs e0 e10 e59 e62 e35 e =
-    let p = or_parts _ (b == 36) e in
-    let q = or_parts _ (b == 34) p.0 in
-    let s = or_parts (is_plain b) (b == 39) q.0 in
-    rw (e0, e10, e59, e62, e35, s.0, s.1, q.1, p.1) refl
-
 pub semicolon_gap : (l : ℕ) (r : Reader) (bs : List ℕ) → IsNotBefore 59 bs → read_on (at modes.Semicolon l r) bs ≡ read_on (at modes.Gap l r) bs
 unfolding read_on next_byte at_end
 semicolon_gap l r [] n = refl
 semicolon_gap l r (b ∷ bs) n = rw (ne_eqb b 59 n) refl
-
-pub redirect_gap : (l : ℕ) (r : Reader) (bs : List ℕ) → IsNotBefore 62 bs → read_on (at modes.Redirect l r) bs ≡ read_on (at modes.Gap l (token_more r (redirect l false))) bs
-unfolding read_on next_byte at_end
-redirect_gap l r [] n = refl
-redirect_gap l r (b ∷ bs) n = rw (ne_eqb b 62 n) refl
-
-pub redirect_again : (l : ℕ) (r : Reader) (b : ℕ) (bs : List ℕ) → b ≡ 62 → read_on (at modes.Redirect l r) (b ∷ bs) ≡ read_on (at modes.Gap l (token_more r (redirect l true))) bs
-unfolding read_on next_byte
-redirect_again l r b bs e = rw e refl
 
 pub comment_on : (l : ℕ) (r : Reader) (b : ℕ) (bs : List ℕ) → b ≢ 10 → read_on (at modes.Comment l r) (b ∷ bs) ≡ read_on (at modes.Comment l r) bs
 unfolding read_on next_byte
@@ -139,35 +111,6 @@ pub word_double : (l : ℕ) (r : Reader) (b : ℕ) (bs : List ℕ) → b ≡ 34 
 unfolding read_on next_byte is_plain
 word_double l r b bs e = rw e refl
 
-pub word_dollar : (l : ℕ) (r : Reader) (b : ℕ) (bs : List ℕ) → b ≡ 36 → read_on (at modes.Word l r) (b ∷ bs) ≡ read_on (at modes.Dollar l (opened_at l r)) bs
-unfolding read_on next_byte is_plain
-word_dollar l r b bs e = rw e refl
-
-pub word_other : (l : ℕ) (r : Reader) (b : ℕ) (bs : List ℕ) → ends_word b ≡ false → begins_word b ≡ false → read_on (at modes.Word l r) (b ∷ bs) ≡ fault_at l reasons.Unsupported
-unfolding read_on next_byte
-word_other l r b bs n e =
-    let a = or_parts _ (b == 62) n in
-    let p = or_parts _ (b == 36) e in
-    let q = or_parts _ (b == 34) p.0 in
-    let s = or_parts (is_plain b) (b == 39) q.0 in
-    rw (a.1, a.0, s.0, s.1, q.1, p.1) refl
-
-pub number_redirected : (l : ℕ) (r : Reader) (b : ℕ) (bs : List ℕ) → b ≡ 62 → r.is_number ≡ true → read_on (at modes.Word l r) (b ∷ bs) ≡ fault_at l reasons.Unsupported
-unfolding read_on next_byte
-number_redirected l r b bs e n = rw (e, n) refl
-
-pub dollar_named : (l : ℕ) (r : Reader) (c : ℕ) (k : Parameter) (bs : List ℕ) → Names c k → read_on (at modes.Dollar l r) (c ∷ bs) ≡ read_on (at modes.Word l (symbol_more r (bare k))) bs
-unfolding read_on next_byte
-dollar_named l r c k bs one = refl
-dollar_named l r c k bs two = refl
-dollar_named l r c k bs three = refl
-
-pub quoted_dollar_named : (l : ℕ) (r : Reader) (c : ℕ) (k : Parameter) (bs : List ℕ) → Names c k → read_on (at modes.QuotedDollar l r) (c ∷ bs) ≡ read_on (at modes.Double l (symbol_more r (quoted k))) bs
-unfolding read_on next_byte
-quoted_dollar_named l r c k bs one = refl
-quoted_dollar_named l r c k bs two = refl
-quoted_dollar_named l r c k bs three = refl
-
 -- a digit that names a parameter begins no name
 digit_named : (c : ℕ) (k : Parameter) → parameter_named c ≡ Some k → begins_name c ≡ false
 digit_named c k e = elim (cases_eq c 49) [
@@ -181,54 +124,6 @@ digit_named c k e = elim (cases_eq c 49) [
 pub quoted_dollar_read : (l : ℕ) (r : Reader) (c : ℕ) (k : Parameter) (bs : List ℕ) → parameter_named c ≡ Some k → read_on (at modes.QuotedDollar l r) (c ∷ bs) ≡ read_on (at modes.Double l (symbol_more r (quoted k))) bs
 unfolding read_on next_byte
 quoted_dollar_read l r c k bs e = rw (digit_named c k e, e) refl
-
--- a name behind `$`
-abbrev pub name_begun : Reader → ℕ → Reader
-name_begun r b = record r { name = b ∷ [] }
-
-abbrev pub name_more : Reader → List ℕ → Reader
-name_more r name = record r { name = r.name ++ name }
-
--- a name ends
-abbrev pub name_ended : Reader → Reader
-name_ended r = symbol_more r (named_bare r.name)
-
-abbrev pub quoted_name_ended : Reader → Reader
-quoted_name_ended r = symbol_more r (named_quoted r.name)
-
-pub dollar_name : (l : ℕ) (r : Reader) (c : ℕ) (bs : List ℕ) → begins_name c ≡ true → read_on (at modes.Dollar l r) (c ∷ bs) ≡ read_on (at modes.Name l (name_begun r c)) bs
-unfolding read_on next_byte
-dollar_name l r c bs e = rw e refl
-
-pub quoted_dollar_name : (l : ℕ) (r : Reader) (c : ℕ) (bs : List ℕ) → begins_name c ≡ true → read_on (at modes.QuotedDollar l r) (c ∷ bs) ≡ read_on (at modes.QuotedName l (name_begun r c)) bs
-unfolding read_on next_byte
-quoted_dollar_name l r c bs e = rw e refl
-
-pub name_byte : (l : ℕ) (r : Reader) (b : ℕ) (bs : List ℕ) → continues_name b ≡ true → read_on (at modes.Name l r) (b ∷ bs) ≡ read_on (at modes.Name l (name_more r (b ∷ []))) bs
-unfolding read_on next_byte
-name_byte l r b bs e = rw e refl
-
-pub quoted_name_byte : (l : ℕ) (r : Reader) (b : ℕ) (bs : List ℕ) → continues_name b ≡ true → read_on (at modes.QuotedName l r) (b ∷ bs) ≡ read_on (at modes.QuotedName l (name_more r (b ∷ []))) bs
-unfolding read_on next_byte
-quoted_name_byte l r b bs e = rw e refl
-
-pub name_ends : (l : ℕ) (r : Reader) (bs : List ℕ) → AtNameEnd bs → read_on (at modes.Name l r) bs ≡ read_on (at modes.Word l (name_ended r)) bs
-unfolding read_on next_byte at_end
-name_ends l r [] e = refl
-name_ends l r (b ∷ bs) e = rw e refl
-
-pub quoted_name_ends : (l : ℕ) (r : Reader) (bs : List ℕ) → AtNameEnd bs → read_on (at modes.QuotedName l r) bs ≡ read_on (at modes.Double l (quoted_name_ended r)) bs
-unfolding read_on next_byte at_end
-quoted_name_ends l r [] e = refl
-quoted_name_ends l r (b ∷ bs) e = rw e refl
-
-pub name_read : {bs name rest : List ℕ} → EndsName bs name rest → (l : ℕ) (r : Reader) → read_on (at modes.Name l r) bs ≡ read_on (at modes.Word l (name_ended (name_more r name))) rest
-name_read (ends_here {bs} e) l r = name_ends l r bs e ∙ ap (λ (n : List ℕ). read_on (at modes.Word l (name_ended (record r { name = n }))) bs) (sym (append-nil r.name))
-name_read (one_more {b} {bs} {name} {rest} e g) l r = name_byte l r b bs e ∙ (name_read g l (name_more r (b ∷ [])) ∙ ap (λ (n : List ℕ). read_on (at modes.Word l (name_ended (record r { name = n }))) rest) (append_assoc r.name (b ∷ []) name))
-
-pub quoted_name_read : {bs name rest : List ℕ} → EndsName bs name rest → (l : ℕ) (r : Reader) → read_on (at modes.QuotedName l r) bs ≡ read_on (at modes.Double l (quoted_name_ended (name_more r name))) rest
-quoted_name_read (ends_here {bs} e) l r = quoted_name_ends l r bs e ∙ ap (λ (n : List ℕ). read_on (at modes.Double l (quoted_name_ended (record r { name = n }))) bs) (sym (append-nil r.name))
-quoted_name_read (one_more {b} {bs} {name} {rest} e g) l r = quoted_name_byte l r b bs e ∙ (quoted_name_read g l (name_more r (b ∷ [])) ∙ ap (λ (n : List ℕ). read_on (at modes.Double l (quoted_name_ended (record r { name = n }))) rest) (append_assoc r.name (b ∷ []) name))
 
 pub single_closes : (l : ℕ) (r : Reader) (b : ℕ) (bs : List ℕ) → b ≡ 39 → read_on (at modes.Single l r) (b ∷ bs) ≡ read_on (at modes.Word l r) bs
 unfolding read_on next_byte
@@ -251,35 +146,3 @@ double_byte l r b bs n =
 pub double_dollar : (l : ℕ) (r : Reader) (b : ℕ) (bs : List ℕ) → b ≡ 36 → read_on (at modes.Double l r) (b ∷ bs) ≡ read_on (at modes.QuotedDollar l r) bs
 unfolding read_on next_byte
 double_dollar l r b bs e = rw e refl
-
-pub double_backslash : (l : ℕ) (r : Reader) (b : ℕ) (bs : List ℕ) → b ≡ 92 → read_on (at modes.Double l r) (b ∷ bs) ≡ read_on (at modes.Escape l r) bs
-unfolding read_on next_byte
-double_backslash l r b bs e = rw e refl
-
-pub double_backquote : (l : ℕ) (r : Reader) (b : ℕ) (bs : List ℕ) → b ≡ 96 → read_on (at modes.Double l r) (b ∷ bs) ≡ fault_at l reasons.Unsupported
-unfolding read_on next_byte
-double_backquote l r b bs e = rw e refl
-
-pub escape_taken : (l : ℕ) (r : Reader) (c : ℕ) (bs : List ℕ) → is_escaped c ≡ true → read_on (at modes.Escape l r) (c ∷ bs) ≡ read_on (at modes.Double l (symbol_more r (byte c))) bs
-unfolding read_on next_byte
-escape_taken l r c bs e = rw (not_same is_escaped c 10 refl e, e) refl
-
-pub escape_stands : (l : ℕ) (r : Reader) (c : ℕ) (bs : List ℕ) → is_escaped c ≡ false → c ≢ 10 → read_on (at modes.Escape l r) (c ∷ bs) ≡ read_on (at modes.Double l (symbol_more (symbol_more r (byte 92)) (byte c))) bs
-unfolding read_on next_byte
-escape_stands l r c bs e n = rw (ne_eqb c 10 n, e) refl
-
-pub escape_newline : (l : ℕ) (r : Reader) (c : ℕ) (bs : List ℕ) → c ≡ 10 → read_on (at modes.Escape l r) (c ∷ bs) ≡ fault_at l reasons.Unsupported
-unfolding read_on next_byte
-escape_newline l r c bs e = rw e refl
-
-pub semicolon_again : (l : ℕ) (r : Reader) (b : ℕ) (bs : List ℕ) → b ≡ 59 → read_on (at modes.Semicolon l r) (b ∷ bs) ≡ fault_at l reasons.Unsupported
-unfolding read_on next_byte
-semicolon_again l r b bs e = rw e refl
-
-pub dollar_other : (l : ℕ) (r : Reader) (b : ℕ) (bs : List ℕ) → begins_name b ≡ false → b ≢ 49 → b ≢ 50 → b ≢ 51 → read_on (at modes.Dollar l r) (b ∷ bs) ≡ fault_at l reasons.Unsupported
-unfolding read_on next_byte
-dollar_other l r b bs n0 n1 n2 n3 = rw (n0, ne_eqb b 49 n1, ne_eqb b 50 n2, ne_eqb b 51 n3) refl
-
-pub quoted_dollar_other : (l : ℕ) (r : Reader) (b : ℕ) (bs : List ℕ) → begins_name b ≡ false → b ≢ 49 → b ≢ 50 → b ≢ 51 → read_on (at modes.QuotedDollar l r) (b ∷ bs) ≡ fault_at l reasons.Unsupported
-unfolding read_on next_byte
-quoted_dollar_other l r b bs n0 n1 n2 n3 = rw (n0, ne_eqb b 49 n1, ne_eqb b 50 n2, ne_eqb b 51 n3) refl

@@ -2,10 +2,10 @@
 use Rattle.std.proofs.Common.{◌≡◌, ℕ, suc, ◌+◌, ◌≤◌, Bool, true, false, ◌||◌, List, [], ◌∷◌, length, refl, ◌∙◌, arith}
 use Rattle.std.specs.Str.{bytes_eq}
 use Rattle.redo_script.specs.declared.open.Open.{Open as OpenTree}
-use Rattle.redo_script.specs.declared.open.Open.TheVariants as trees
-use Rattle.redo_script.specs.Grammar.{is_bound}
+use Rattle.redo_script.specs.Forms.{is_bound}
 use Rattle.redo_script.specs.Parsing.{Open, ifs_in, names_in}
 use Rattle.redo_script.specs.inside.Parser.{open_of, stack_onto, ifs_among, loops_among, bound_among}
+use Rattle.redo_script.specs.declared.open.Open.TheVariants as trees
 
 ifs_onto : (os : List Open) (xs : List OpenTree) → ifs_in (stack_onto os xs) ≡ ifs_among xs + ifs_in os
 ifs_onto os [] = omega arith

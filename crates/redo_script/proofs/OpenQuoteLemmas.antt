@@ -5,15 +5,16 @@ use Rattle.std.proofs.lemmas.Bool.{eqb-true, cases_Bool}
 use Rattle.redo_script.specs.declared.ast.Parameter.{Parameter}
 use Rattle.redo_script.specs.declared.fault.ScriptFault.{ScriptFault}
 use Rattle.redo_script.specs.declared.lexer.Mode.{Mode}
-use Rattle.redo_script.specs.declared.lexer.Mode.TheVariants as modes
 use Rattle.redo_script.specs.Bytes.{is_plain, is_blank, begins_name, continues_name}
 use Rattle.redo_script.specs.Syntax.{bare, quoted, named_bare, named_quoted}
 use Rattle.redo_script.specs.Tokens.{Token, redirect, ends_word, is_escaped}
 use Rattle.redo_script.specs.Reading.{Reader, with_token, with_begun_word, with_word, word_byte, gap_byte, in_word}
-use Rattle.redo_script.specs.Reading.{parameter_named, with_parameter, with_symbol, with_name, after_dollar, in_double, next_byte, at_end}
-use Rattle.redo_script.specs.inside.Lexer.{is_inside}
+use Rattle.redo_script.specs.Reading.{parameter_named, with_parameter, with_symbol, with_name, after_dollar}
+use Rattle.redo_script.specs.Reading.{in_double, next_byte, at_end}
+use Rattle.redo_script.specs.Marks.{is_inside}
 use Rattle.redo_script.proofs.BitLemmas.{never, injected}
 use Rattle.redo_script.proofs.OneByteLemmas.{at}
+use Rattle.redo_script.specs.declared.lexer.Mode.TheVariants as modes
 
 -- a byte outside quotes opens them, in its line, if anything does
 abbrev OpensAt : ℕ → ℕ → Mode → ℕ → Type 0

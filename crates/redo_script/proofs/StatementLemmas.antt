@@ -5,9 +5,7 @@ use Rattle.std.proofs.Math.Seq.{drop-cons}
 use Rattle.std.proofs.lemmas.Bool.{ne_eqb}
 use Rattle.redo_script.specs.declared.ast.Stmt.{Stmt}
 use Rattle.redo_script.specs.declared.ast.Stmt.TheOpen.{Stmt-F}
-use Rattle.redo_script.specs.declared.ast.Stmt.TheOpen as stmts
 use Rattle.redo_script.specs.declared.ast.Stmt.TheViews.{out-Stmt, outs-If, outs-Loop, outs-Simple}
-use Rattle.redo_script.specs.declared.ast.Stmt.TheVariants as stmt
 use Rattle.redo_script.specs.declared.ast.Command.{Command as CommandTree}
 use Rattle.redo_script.specs.declared.ast.Condition.{Condition as ConditionTree}
 use Rattle.std.specs.declared.vec.Vec.{Vec}
@@ -19,9 +17,11 @@ use Rattle.redo_script.specs.Parsing.{Open, is_empty, with_last}
 use Rattle.redo_script.specs.View.{stmt_step, before, script_of, command_of, condition_of, word_of, words_of}
 use Rattle.redo_script.specs.declared.ast.Word.{Word as WordTree}
 use Rattle.redo_script.specs.declared.item.Item.{Item as ItemTree}
-use Rattle.redo_script.specs.Grammar.{Item, item_words}
+use Rattle.redo_script.specs.Forms.{Item, item_words}
 use Rattle.std.proofs.lemmas.List.{map-append, drop-set-lt}
 use Rattle.redo_script.specs.inside.Parser.{item_of, open_of, stack_onto}
+use Rattle.redo_script.specs.declared.ast.Stmt.TheOpen as stmts
+use Rattle.redo_script.specs.declared.ast.Stmt.TheVariants as stmt
 
 -- one statement and what is behind it
 abbrev opened : Stmt-F Stmt → Script → Script

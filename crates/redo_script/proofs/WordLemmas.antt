@@ -1,12 +1,13 @@
 -- Words as lists of symbols.
-use Rattle.std.proofs.Common.{◌≡◌, ℕ, true, List, [], ◌∷◌, ◌++◌, Option, Some, None, sym, refl, ap, ◌∙◌, append_assoc, map}
+use Rattle.std.proofs.Common.{◌≡◌, ℕ, true, List, [], ◌∷◌, ◌++◌, Option, Some, None, sym, refl, ap, ◌∙◌, append_assoc}
+use Rattle.std.proofs.Common.{map}
 use Rattle.std.specs.Option.{MatchOption}
 use Rattle.redo_script.specs.declared.number.Number.{Number}
 use Rattle.redo_script.specs.inside.Parser.{status_on}
 use Rattle.std.proofs.lemmas.List.{append-nil}
 use Rattle.redo_script.specs.declared.ast.Part.{Part}
 use Rattle.redo_script.specs.Syntax.{byte, Word}
-use Rattle.redo_script.specs.Grammar.{literal_on, knows_word}
+use Rattle.redo_script.specs.Forms.{literal_on, knows_word}
 use Rattle.redo_script.specs.View.{symbols_of, symbols_of_part}
 
 symbols_of-push : (ps : List Part) (p : Part) → symbols_of (ps ++ p ∷ []) ≡ symbols_of ps ++ symbols_of_part p

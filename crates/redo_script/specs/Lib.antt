@@ -4,11 +4,8 @@ pub mod View
 pub mod Faults
 pub mod Tokens
 pub mod Reading
-pub mod Grammar
+pub mod Forms
 pub mod Parsing
 pub mod Texts
-pub mod Places
-pub mod Refusals
-pub mod Refused
 pub mod Marks
 pub mod inside

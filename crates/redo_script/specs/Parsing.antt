@@ -1,15 +1,15 @@
 -- The script of a list of tokens, token by token, or the first fault: what may come next, and which fault anything else
 -- is.
-use Rattle.std.specs.Prelude.{ℕ, Bool, true, false, ◌||◌, nat_lt, if◌then◌else◌, List, [], ◌∷◌, ◌++◌, length, Option}
-use Rattle.std.specs.Prelude.{Some, None, Result, Ok, codes}
+use Rattle.std.specs.Prelude.{ℕ, suc, Bool, true, false, ◌||◌, nat_lt, if◌then◌else◌, List, [], ◌∷◌, ◌++◌, length}
+use Rattle.std.specs.Prelude.{Option, Some, None, Result, Ok, codes}
 use Rattle.std.specs.Option.{is_some}
 use Rattle.redo_script.specs.declared.fault.ScriptFault.{ScriptFault}
-use Rattle.redo_script.specs.declared.fault.Reason.TheVariants as reasons
 use Rattle.redo_script.specs.Faults.{◌>>=◌, fault_at}
 use Rattle.redo_script.specs.Syntax.{Word, Redirection, Command, Condition, Script, finish, simple, choice, loop}
 use Rattle.redo_script.specs.Tokens.{Token, word, semicolon, newline, redirect}
-use Rattle.redo_script.specs.Grammar.{Item, is_named, command_form, condition_form, name_of, is_bound, knows_word}
-use Rattle.redo_script.specs.Grammar.{knows, Opening, an_if, a_loop, nest_in}
+use Rattle.redo_script.specs.Forms.{Item, is_named, command_form, condition_form, name_of, is_bound, knows_word}
+use Rattle.redo_script.specs.Forms.{knows}
+use Rattle.redo_script.specs.declared.fault.Reason.TheVariants as reasons
 
 -- what was read of a command: its line, name, operands and redirection
 pub record PartialCommand : Type 0 where
@@ -35,6 +35,34 @@ pub data Phase : Type 0 where
   in_words : (line : ℕ) → (name : List ℕ) → List Word → Phase
   before_do : (line : ℕ) → (name : List ℕ) → List Word → Phase
   behind_done : (line : ℕ) → Phase
+
+-- What is open: an if with its line, and whether its else was read; or a loop with its line and its name.
+pub data Opening : Type 0 where
+  an_if : (line : ℕ) → (has_else : Bool) → Opening
+  a_loop : (line : ℕ) → (name : List ℕ) → Opening
+
+-- how many ifs are open around a command, and the names that loops bind there, innermost first
+pub record Nest : Type 0 where
+  pub ifs : ℕ
+  pub names : List (List ℕ)
+
+-- inside one more if
+abbrev pub in_if : Nest → Nest
+in_if n = record n { ifs = suc n.ifs }
+
+-- inside one more loop
+abbrev pub in_loop : List ℕ → Nest → Nest
+in_loop name n = record n { names = name ∷ n.names }
+
+-- outside all ifs and loops
+abbrev pub outermost : Nest
+outermost = record { ifs = 0; names = [] }
+
+-- inside these, innermost first
+abbrev pub nest_in : List Opening → Nest
+nest_in [] = outermost
+nest_in (an_if line has_else ∷ os) = in_if (nest_in os)
+nest_in (a_loop line name ∷ os) = in_loop name (nest_in os)
 
 -- What is open, with the statements before it: an if with its line, its condition and, once else was read, its first
 -- branch; or a loop with its line, its name and its words.
@@ -102,6 +130,10 @@ loop_words = codes "for" ∷ codes "do" ∷ codes "done" ∷ []
 -- the reserved words of an if after its condition
 abbrev pub if_words : List (List ℕ)
 if_words = codes "then" ∷ codes "else" ∷ codes "fi" ∷ []
+
+-- the names of conditions
+abbrev pub conditions : List (List ℕ)
+conditions = codes "test" ∷ codes "true" ∷ codes "false" ∷ []
 
 -- the fault of a name that no command of the subset has
 abbrev pub name_fault : ℕ → Item → Result (List Item) ScriptFault

@@ -1,15 +1,14 @@
 -- The script of a whole text, and the fault of a text that has none.
-use Rattle.std.specs.Prelude.{◌≡◌, ℕ, Bool, true, false, ◌&&◌, ◌==◌, if◌then◌else◌, List, [], ◌∷◌, Result, Ok, codes}
+use Rattle.std.specs.Prelude.{ℕ, Bool, true, false, ◌&&◌, ◌==◌, if◌then◌else◌, List, [], ◌∷◌, Result, Ok, codes}
 use Rattle.std.specs.Str.{bytes_eq}
 use Rattle.redo_script.specs.declared.fault.ScriptFault.{ScriptFault}
-use Rattle.redo_script.specs.declared.fault.Reason.TheVariants as reasons
-use Rattle.redo_script.specs.Bytes as bytes
 use Rattle.redo_script.specs.Faults.{◌>>=◌, fault_at}
 use Rattle.redo_script.specs.Syntax.{Script}
-use Rattle.redo_script.specs.Tokens.{Token, AreTokens, line_after}
-use Rattle.redo_script.specs.Grammar.{IsProgram}
+use Rattle.redo_script.specs.Tokens.{line_after}
 use Rattle.redo_script.specs.Reading.{tokens_of}
 use Rattle.redo_script.specs.Parsing.{statements_of}
+use Rattle.redo_script.specs.declared.fault.Reason.TheVariants as reasons
+use Rattle.redo_script.specs.Bytes as bytes
 
 -- the bytes before the first newline
 abbrev pub first_line : List ℕ → List ℕ
@@ -30,14 +29,6 @@ interpreter_is_fit text = if begins_interpreter text then bytes_eq (first_line t
 abbrev pub has_no_nul : List ℕ → Bool
 has_no_nul [] = true
 has_no_nul (b ∷ bs) = if b == 0 then false else has_no_nul bs
-
--- The grammar of scripts: a text with this tree. Its interpreter line is a comment among its tokens.
-pub record IsScript (text : List ℕ) (script : Script) : Type 0 where
-  pub tokens : List Token
-  pub no_nul : has_no_nul text ≡ true
-  pub interpreter : interpreter_is_fit text ≡ true
-  pub are_tokens : AreTokens text tokens
-  pub statements : IsProgram tokens script
 
 -- the first pass: a fault at the first NUL byte, counting lines from this one on
 abbrev pub nul_from : ℕ → List ℕ → Result (List ℕ) ScriptFault

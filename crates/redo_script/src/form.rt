@@ -1,8 +1,8 @@
 //! Commands from names and operands.
 
 ghost use Rattle.std.specs.Prelude.{◌≡◌, map, option_map, IfOk};
-ghost use Rattle.redo_script.specs.Grammar.{test_form, print_form, cat_form, exit_form};
-ghost use Rattle.redo_script.specs.Grammar.{bare_form, command_form, condition_form, item_words};
+ghost use Rattle.redo_script.specs.Forms.{test_form, print_form, cat_form, exit_form, bare_form, command_form};
+ghost use Rattle.redo_script.specs.Forms.{condition_form, item_words};
 ghost use Rattle.redo_script.specs.View.{command_of, condition_of, redirection_of, test_of, words_of};
 ghost use Rattle.redo_script.specs.inside.Parser.{item_of, word_named};
 

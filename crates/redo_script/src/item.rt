@@ -4,7 +4,7 @@ ghost use Rattle.std.specs.Prelude.{◌≡◌, ◌++◌, ◌&&◌, true, false, 
 ghost use Rattle.std.specs.Option.{MatchOption};
 ghost use Rattle.redo_script.specs.Bytes.{all_continue, is_name};
 ghost use Rattle.redo_script.specs.Syntax.{Word as Symbols};
-ghost use Rattle.redo_script.specs.Grammar.{spells, is_named, literal_on, as_name, name_of, knows_word};
+ghost use Rattle.redo_script.specs.Forms.{spells, is_named, literal_on, as_name, name_of, knows_word};
 ghost use Rattle.redo_script.specs.Parsing.{is_one_of, words_outside, loop_words, if_words, names_in};
 ghost use Rattle.redo_script.specs.View.{symbols_of_part, symbols_of, word_of};
 ghost use Rattle.redo_script.specs.inside.Parser.{item_of, stack_onto};

@@ -1,8 +1,8 @@
 //! The parser for build scripts, the `.do` files of redo: from bytes to a syntax tree.
 //!
-//! A script is written in a small subset of the POSIX shell command language. [`parse`] reads exactly the texts of its
-//! grammar, each as its one tree. For any other text it reports the first fault and its line. The crates above run
-//! scripts.
+//! A script is written in a small subset of the POSIX shell command language. [`parse`] returns what the definitions
+//! say of a text: its tree, or else its first fault and that fault's line. That these are the texts of a grammar, each
+//! with its one tree, and the faults of its tables, are laws of `redo_grammar`. The crates above run scripts.
 //!
 //! - `ast`: the syntax tree.
 //! - `fault`: what can be wrong with a text.
@@ -11,8 +11,6 @@
 //! - `item`, `name`, `number`, `form`, `partial`, `open`, `parser`, `statements`: from tokens to statements.
 //! - `places`, `lexer::stops`, `lexer::marks`, `parser::reading`: which bytes of a text are to blame for its fault, and
 //!   which are the words of a statement. They read a text once more, byte by byte.
-//! - `laws`: theorems that relate the grammar to the functions that find a text's fault. Each is a function that does
-//!   nothing and whose contract is the law.
 #![tactic(auto)]
 
 mod ast;
@@ -20,7 +18,6 @@ mod bytes;
 mod fault;
 mod form;
 mod item;
-pub mod laws;
 mod lexer;
 mod name;
 mod number;

@@ -2,8 +2,7 @@
 
 ghost use Rattle.std.specs.Prelude.{◌≡◌, IfSome, is_some, map, true};
 ghost use Rattle.redo_script.specs.Syntax.{byte};
-ghost use Rattle.redo_script.specs.Parsing.{commands, is_one_of};
-ghost use Rattle.redo_script.specs.Refusals.{conditions};
+ghost use Rattle.redo_script.specs.Parsing.{commands, is_one_of, conditions};
 ghost use Rattle.redo_script.specs.inside.Parser.{item_of, word_named};
 
 use crate::item::Item;

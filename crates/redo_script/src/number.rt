@@ -3,7 +3,7 @@
 ghost use Rattle.std.specs.Prelude.{◌≡◌, ◌∷◌, ◌++◌, ◌≤◌, None, map, []};
 ghost use Rattle.std.specs.Option.{MatchOption};
 ghost use Rattle.redo_script.specs.Syntax.{Word as Symbols, byte as byte_symbol};
-ghost use Rattle.redo_script.specs.Grammar.{status_of};
+ghost use Rattle.redo_script.specs.Forms.{status_of};
 ghost use Rattle.redo_script.specs.View.{symbols_of_part, symbols_of, word_of};
 ghost use Rattle.redo_script.specs.inside.Parser.{status_on};
 

@@ -2,7 +2,7 @@
 
 ghost use Rattle.std.specs.Prelude.{◌≡◌, List, [], ◌∷◌, Err, length};
 ghost use Rattle.std.specs.Str.{bytes_eq};
-ghost use Rattle.redo_script.specs.Grammar.{is_bound};
+ghost use Rattle.redo_script.specs.Forms.{is_bound};
 ghost use Rattle.redo_script.specs.Parsing.{Open as OpenTree, ifs_in, names_in, unless_open};
 ghost use Rattle.redo_script.specs.Syntax.{Script as ScriptTree};
 ghost use Rattle.redo_script.specs.inside.Parser.{open_of, stack_onto};

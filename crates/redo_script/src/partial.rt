@@ -3,9 +3,9 @@
 ghost use Rattle.std.specs.Prelude.{◌≡◌, Ok, [], map, option_map, true};
 ghost use Rattle.redo_script.specs.Faults.{Gives};
 ghost use Rattle.redo_script.specs.inside.Calls.{Leaves};
-ghost use Rattle.redo_script.specs.Parsing.{begin_command, with_word, with_redirect, is_unfinished};
-ghost use Rattle.redo_script.specs.Grammar.{knows, knows_items};
-ghost use Rattle.redo_script.specs.Parsing.{ended_command, ended_condition, names_in};
+ghost use Rattle.redo_script.specs.Parsing.{begin_command, with_word, with_redirect, is_unfinished, ended_command};
+ghost use Rattle.redo_script.specs.Parsing.{ended_condition, names_in};
+ghost use Rattle.redo_script.specs.Forms.{knows, knows_items};
 ghost use Rattle.redo_script.specs.View.{command_of, condition_of, word_of};
 ghost use Rattle.redo_script.specs.inside.Parser.{item_of, word_named, partial_of, stack_onto, takes_operands};
 

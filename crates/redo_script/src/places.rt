@@ -3,8 +3,7 @@
 mod lines;
 
 ghost use Rattle.std.specs.Prelude.{◌≡◌, ◌≤◌, length, take, IfOk, IfSome, MatchOption, Err, All};
-ghost use Rattle.redo_script.specs.Marks.{HasLine, IsInLine, IsInOneLine, AreInOrder, StopsAt};
-ghost use Rattle.redo_script.specs.Places.{line_from};
+ghost use Rattle.redo_script.specs.Marks.{HasLine, IsInLine, IsInOneLine, AreInOrder, line_from, stop_of};
 ghost use Rattle.redo_script.specs.inside.Stops.{StopsWith};
 ghost use Rattle.redo_script.specs.Reading.{tokens_of};
 
@@ -131,7 +130,7 @@ pub fn place_of_fault(
 
     // A fault of the tokens has the place where they stop.
     ensures tokens { IfOk result (λ place.
-        tokens_of text.now ≡ Err fault.now → StopsAt text.now fault.now place.span.start) }
+        tokens_of text.now ≡ Err fault.now → place.span.start ≡ stop_of text.now) }
 {
     match stop_with(alloc, text, fault)? {
         Some(stop) => Ok(stop_place(text, stop)),

@@ -2,16 +2,12 @@
 
 mod passes;
 
-ghost use Rattle.std.specs.Prelude.{◌≡◌, ◌≢◌, [], IfOk, IfErr, Ok, not};
+ghost use Rattle.std.specs.Prelude.{◌≡◌, [], not};
 ghost use Rattle.std.specs.Str.{bytes_eq};
-ghost use Rattle.redo_script.specs.Faults.{Gives, no_memory};
-ghost use Rattle.redo_script.specs.declared.fault.Reason.TheVariants as reasons;
+ghost use Rattle.redo_script.specs.Faults.{Gives};
 ghost use Rattle.redo_script.specs.inside.Passes.{script_by_tokens};
-ghost use Rattle.redo_script.specs.Syntax.{Script as ScriptTree};
 ghost use Rattle.redo_script.specs.View.{script_of};
-ghost use Rattle.redo_script.specs.Texts.{IsScript, has_no_nul, first_line, nul_from, interpreter_is_fit};
-ghost use Rattle.redo_script.specs.Texts.{script_in};
-ghost use Rattle.redo_script.specs.Refused.{IsRefused};
+ghost use Rattle.redo_script.specs.Texts.{has_no_nul, first_line, nul_from, interpreter_is_fit, script_in};
 
 use crate::ast::Script;
 use crate::fault::{Reason, ScriptFault};
@@ -110,19 +106,7 @@ fn read(alloc: Global, text: &[u8]) -> Result<Script, ScriptFault>
 /// A text is checked in four passes: for a NUL byte, for its interpreter line, for its tokens and for its commands. The
 /// first pass that finds a fault decides, and within a pass the first fault.
 pub fn parse(alloc: Global, text: &[u8]) -> Result<Script, ScriptFault>
-    // What is read is in the grammar, with this tree.
-    ensures found { IfOk result (λ s. IsScript text.now (script_of s.stmts.items)) }
-
-    // What is in the grammar is read as its tree, unless memory runs out.
-    ensures only { (s : ScriptTree) → IsScript text.now s → Gives (λ t. script_of t.stmts.items) result (Ok s) }
-
-    // What is refused has this fault, at the place where the text first leaves the grammar.
-    ensures refused { IfErr result (λ fault. fault.why ≢ reasons.Memory → IsRefused text.now fault) }
-
-    // Out of memory has no line.
-    ensures memory { IfErr result (λ fault. fault.why ≡ reasons.Memory → fault ≡ no_memory) }
-
-    // What isn't in the grammar has exactly this fault, unless memory runs out.
+    // What is read is the tree of the definitions, and what isn't has their fault, unless memory runs out.
     ensures exact { Gives (λ t. script_of t.stmts.items) result (script_in text.now) }
 {
     read(alloc, text)

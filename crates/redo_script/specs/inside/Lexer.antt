@@ -1,14 +1,13 @@
 -- The lexer in contracts.
-use Rattle.std.specs.Prelude.{ℕ, Bool, true, false, if◌then◌else◌, List, [], ◌++◌, map}
+use Rattle.std.specs.Prelude.{ℕ, false, List, [], ◌++◌, map}
 use Rattle.redo_script.specs.declared.token.Token.{Token as TokenTree}
-use Rattle.redo_script.specs.declared.token.Token.TheVariants as trees
 use Rattle.redo_script.specs.declared.lexer.Lexer.{Lexer}
 use Rattle.redo_script.specs.Syntax.{byte}
 use Rattle.redo_script.specs.View.{symbols_of}
 use Rattle.redo_script.specs.inside.Parser.{item_of}
 use Rattle.redo_script.specs.Tokens.{Token, word, semicolon, newline, redirect}
 use Rattle.redo_script.specs.Reading.{Reader, with_token, with_quote, with_begun_word}
-use Rattle.redo_script.specs.declared.lexer.Mode.{Mode}
+use Rattle.redo_script.specs.declared.token.Token.TheVariants as trees
 use Rattle.redo_script.specs.declared.lexer.Mode.TheVariants as modes
 
 -- a token, with its word as symbols
@@ -43,22 +42,3 @@ at_line l n = record l { line = n }
 -- a word that is one pair of quotes around these bytes, then a place between words
 abbrev pub with_quoted : Reader → List ℕ → Reader
 with_quoted r bytes = with_token (with_quote (with_begun_word r) modes.Single) (word r.line false (map byte bytes))
-
--- the next byte is inside quotes
-abbrev pub is_inside : Mode → Bool
-is_inside modes.Gap = false
-is_inside modes.Semicolon = false
-is_inside modes.Redirect = false
-is_inside modes.Comment = false
-is_inside modes.Word = false
-is_inside modes.Dollar = false
-is_inside modes.Name = false
-is_inside modes.Single = true
-is_inside modes.Double = true
-is_inside modes.QuotedDollar = true
-is_inside modes.QuotedName = true
-is_inside modes.Escape = true
-
--- where the quote is that was opened last, after the byte at this place took one mode to another
-abbrev pub quote_after : (old new : Mode) → (at quote : ℕ) → ℕ
-quote_after old new at quote = if is_inside old then quote else if is_inside new then at else quote

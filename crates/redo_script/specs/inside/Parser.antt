@@ -1,27 +1,27 @@
 -- The parser of statements in contracts.
-use Rattle.std.specs.Prelude.{◌+◌, ℕ, Bool, true, false, ◌&&◌, ◌||◌, nat_le, if◌then◌else◌, length, List, [], ◌∷◌, map}
-use Rattle.std.specs.Prelude.{Option, None, option_map, codes}
+use Rattle.std.specs.Prelude.{◌+◌, ℕ, Bool, true, false, ◌&&◌, ◌||◌, nat_le, if◌then◌else◌, length, List, [], ◌∷◌}
+use Rattle.std.specs.Prelude.{map, Option, None, option_map, codes}
 use Rattle.std.specs.Str.{bytes_eq}
 use Rattle.std.specs.Option.{is_none}
 use Rattle.redo_script.specs.Syntax.{byte, Word, Condition, finish}
-use Rattle.redo_script.specs.Grammar.{at_most, digits_value, Item}
+use Rattle.redo_script.specs.Forms.{at_most, digits_value, Item}
 use Rattle.redo_script.specs.declared.item.Item.{Item as ItemTree}
-use Rattle.redo_script.specs.declared.item.Item.TheVariants as items
 use Rattle.redo_script.specs.declared.name.CommandName.{CommandName}
-use Rattle.redo_script.specs.declared.name.CommandName.TheVariants as names
 use Rattle.redo_script.specs.declared.partial.PartialCommand.{PartialCommand as PartialTree}
 use Rattle.redo_script.specs.declared.ast.Condition.{Condition as ConditionTree}
 use Rattle.redo_script.specs.declared.parser.Phase.{Phase as PhaseTree}
-use Rattle.redo_script.specs.declared.parser.Phase.TheVariants as phases
 use Rattle.redo_script.specs.declared.open.OpenIf.{OpenIf}
 use Rattle.redo_script.specs.declared.open.OpenLoop.{OpenLoop}
 use Rattle.redo_script.specs.declared.open.Open.{Open as OpenTree}
-use Rattle.redo_script.specs.declared.open.Open.TheVariants as trees
 use Rattle.redo_script.specs.declared.parser.Parser.{Parser as ParserTree}
-use Rattle.redo_script.specs.Parsing.{PartialCommand, Open, open_if, open_loop, Parser}
-use Rattle.redo_script.specs.Parsing.{Phase, at_command, in_command, behind_if, in_condition, before_then, behind_fi}
-use Rattle.redo_script.specs.Parsing.{behind_for, behind_name, in_words, before_do, behind_done}
+use Rattle.redo_script.specs.Parsing.{PartialCommand, Open, open_if, open_loop, Parser, Phase, at_command, in_command}
+use Rattle.redo_script.specs.Parsing.{behind_if, in_condition, before_then, behind_fi, behind_for, behind_name}
+use Rattle.redo_script.specs.Parsing.{in_words, before_do, behind_done}
 use Rattle.redo_script.specs.View.{symbols_of, words_of, redirection_of, condition_of, script_of}
+use Rattle.redo_script.specs.declared.item.Item.TheVariants as items
+use Rattle.redo_script.specs.declared.name.CommandName.TheVariants as names
+use Rattle.redo_script.specs.declared.parser.Phase.TheVariants as phases
+use Rattle.redo_script.specs.declared.open.Open.TheVariants as trees
 
 -- a word of a command, as symbols
 abbrev pub item_of : ItemTree → Item

@@ -1,17 +1,16 @@
 -- Where tokens stop, in contracts of the functions that look for it.
 use Rattle.std.specs.Prelude.{◌≡◌, ◌≤◌, ◌-◌, ℕ, List, length, take, Result, Err, Option, Some, None}
 use Rattle.redo_script.specs.declared.fault.ScriptFault.{ScriptFault}
-use Rattle.redo_script.specs.declared.fault.Reason.TheVariants as reasons
 use Rattle.redo_script.specs.declared.lexer.stops.Stop.{Stop}
 use Rattle.redo_script.specs.Tokens.{Token}
 use Rattle.redo_script.specs.Reading.{tokens_of}
-use Rattle.redo_script.specs.Places.{line_from}
-use Rattle.redo_script.specs.Marks.{StopsAt}
+use Rattle.redo_script.specs.Marks.{line_from, stop_of}
+use Rattle.redo_script.specs.declared.fault.Reason.TheVariants as reasons
 
 -- The tokens of the text have this fault, and stop at this place, which is in the fault's line.
 pub record StopsWith (text : List ℕ) (stop : Stop) : Type 0 where
   pub is_fault : tokens_of text ≡ Err stop.fault
-  pub place : StopsAt text stop.fault stop.at
+  pub place : stop.at ≡ stop_of text
   pub within : stop.at ≤ length text
   pub line_is : line_from 1 (take stop.at text) ≡ stop.fault.line
 

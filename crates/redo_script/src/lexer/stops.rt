@@ -1,11 +1,12 @@
 //! Where the tokens of a text stop.
 
 ghost use Rattle.std.specs.Prelude.{◌≡◌, ◌≢◌, ◌≤◌, ◌<◌, ◌+◌, ◌-◌, ◌^◌, IfOk, IfSome, OnOk, Some};
-ghost use Rattle.redo_script.specs.declared.fault.Reason.TheVariants as reasons;
 ghost use Rattle.redo_script.specs.Reading.{next_byte, at_end, tokens_of};
 ghost use Rattle.redo_script.specs.inside.Calls.{Leaves};
-ghost use Rattle.redo_script.specs.inside.Lexer.{is_inside, reader_of, quote_after};
+ghost use Rattle.redo_script.specs.Marks.{is_inside, quote_after};
+ghost use Rattle.redo_script.specs.inside.Lexer.{reader_of};
 ghost use Rattle.redo_script.specs.inside.Stops.{Ends, IsAtEnd, StopsWith};
+ghost use Rattle.redo_script.specs.declared.fault.Reason.TheVariants as reasons;
 
 use crate::fault::{Reason, ScriptFault};
 use crate::lexer::{Lexer, Mode};

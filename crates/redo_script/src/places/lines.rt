@@ -1,9 +1,8 @@
 //! Lines of a text, and bytes in one line.
 
 ghost use Rattle.std.specs.Prelude.{◌≡◌, ◌≤◌, ◌<◌, length, take};
-ghost use Rattle.redo_script.specs.Places.{line_from};
+ghost use Rattle.redo_script.specs.Marks.{line_from, HasLine, IsInLine};
 ghost use Rattle.redo_script.specs.Texts.{first_line};
-ghost use Rattle.redo_script.specs.Marks.{HasLine, IsInLine};
 
 use crate::places::Span;
 

@@ -1,5 +1,5 @@
 use Rattle.std.proofs.Common.{◌≡◌, [], drop}
-use Rattle.redo_script.specs.Grammar.{knows_word}
+use Rattle.redo_script.specs.Forms.{knows_word}
 use Rattle.redo_script.specs.Parsing.{names_in}
 use Rattle.redo_script.specs.View.{symbols_of}
 use Rattle.redo_script.specs.inside.Parser.{stack_onto}

@@ -1,5 +1,5 @@
 use Rattle.std.proofs.Common.{◌≡◌, [], drop}
-use Rattle.redo_script.specs.Grammar.{literal_on}
+use Rattle.redo_script.specs.Forms.{literal_on}
 use Rattle.redo_script.specs.View.{symbols_of}
 use Rattle.redo_script.proofs.item.parts_literal.Given as goal
 

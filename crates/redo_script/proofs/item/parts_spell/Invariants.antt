@@ -1,5 +1,5 @@
 use Rattle.std.proofs.Common.{◌≡◌, drop}
-use Rattle.redo_script.specs.Grammar.{spells}
+use Rattle.redo_script.specs.Forms.{spells}
 use Rattle.redo_script.specs.View.{symbols_of}
 use Rattle.redo_script.proofs.item.parts_spell.Given as goal
 

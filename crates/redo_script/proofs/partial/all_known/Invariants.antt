@@ -1,5 +1,5 @@
 use Rattle.std.proofs.Common.{◌≡◌, [], drop, map}
-use Rattle.redo_script.specs.Grammar.{knows_items}
+use Rattle.redo_script.specs.Forms.{knows_items}
 use Rattle.redo_script.specs.Parsing.{names_in}
 use Rattle.redo_script.specs.inside.Parser.{item_of, stack_onto}
 use Rattle.redo_script.proofs.partial.all_known.Given as goal

@@ -1,5 +1,5 @@
 use Rattle.std.proofs.Common.{◌≡◌, ◌≤◌, ◌+◌, take}
-use Rattle.redo_script.specs.Places.{line_from}
+use Rattle.redo_script.specs.Marks.{line_from}
 use Rattle.redo_script.proofs.places.lines.line_start.Given as goal
 
 abbrev pub invariant-loop-i : goal.invariant-loop-i

@@ -1,0 +1,17 @@
+pub mod ByteLemmas
+pub mod OnlyTokenLemmas
+pub mod FoundTokenLemmas
+pub mod StopTokenLemmas
+pub mod CommandLemmas
+pub mod OneTokenLemmas
+pub mod OnlyScriptLemmas
+pub mod FoundScriptLemmas
+pub mod WholeScriptLemmas
+pub mod PartialCommandLemmas
+pub mod RefusedLemmas
+pub mod RefusingLemmas
+pub mod RefusedTextLemmas
+pub mod OneFaultLemmas
+pub mod WholeTextLemmas
+pub mod MemoryLemmas
+pub mod AnswerLemmas

@@ -1,5 +1,0 @@
-use Rattle.redo_script.proofs.WholeTextLemmas.{never_both}
-use Rattle.redo_script.proofs.laws.a_script_has_no_fault.Goals as goal
-
-pub returns : goal.returns
-returns c = never_both

@@ -1,5 +1,0 @@
-use Rattle.redo_script.proofs.WholeTextLemmas.{one_fault}
-use Rattle.redo_script.proofs.laws.a_text_has_one_fault.Goals as goal
-
-pub returns : goal.returns
-returns c = one_fault

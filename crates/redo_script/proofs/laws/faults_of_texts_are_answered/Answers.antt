@@ -1,5 +1,0 @@
-use Rattle.redo_script.proofs.OneFaultLemmas.{answered}
-use Rattle.redo_script.proofs.laws.faults_of_texts_are_answered.Goals as goal
-
-pub returns : goal.returns
-returns c = answered

@@ -1,5 +1,0 @@
-use Rattle.redo_script.proofs.RefusedTextLemmas.{refused_text}
-use Rattle.redo_script.proofs.laws.refused_texts_have_their_fault.Goals as goal
-
-pub returns : goal.returns
-returns c = refused_text

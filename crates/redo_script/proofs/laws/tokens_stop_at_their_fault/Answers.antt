@@ -1,5 +1,0 @@
-use Rattle.redo_script.proofs.StopTokenLemmas.{stops_tokens}
-use Rattle.redo_script.proofs.laws.tokens_stop_at_their_fault.Goals as goal
-
-pub returns : goal.returns
-returns c = stops_tokens
