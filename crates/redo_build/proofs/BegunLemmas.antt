@@ -1,6 +1,6 @@
 -- The targets that are taken at turn 0 are those that have a rule and are begun.
-use Rattle.std.proofs.Common.{◌≡◌, ℕ, ◌<◌, ◌≤◌, ◌↔◌, true, false, ◌⊎◌, inl, inr, List, [], ◌∷◌, ◌++◌, length, Some}
-use Rattle.std.proofs.Common.{None, slice_get, option_and_then, sym, ap, subst, ◌∙◌, arith, zero, suc}
+use Rattle.std.proofs.Common.{◌≡◌, ℕ, ◌<◌, ◌≤◌, ◌↔◌, true, false, ◌⊎◌, inl, inr, List, [], ◌∷◌, length, Some}
+use Rattle.std.proofs.Common.{None, sym, ap, subst, ◌∙◌, arith, zero, suc}
 use Rattle.std.proofs.lemmas.Bool.{cases_lt, both_ways}
 use Rattle.redo_record.specs.Paths.{IsAmong}
 use Rattle.redo_record.specs.declared.deps.Dep.{Dep}
@@ -9,9 +9,8 @@ use Rattle.redo_build.specs.Rules.{Rules, AreLawful, operands}
 use Rattle.redo_build.specs.Outcomes.{needed_at, requested_targets, outcome_at}
 use Rattle.redo_build.specs.Schedule.{Entry, State, Event, paths_of, entry_of, outcomes_of, happens, AllOpen, IsQuiet}
 use Rattle.redo_build.specs.Schedule.{opening, run, only}
-use Rattle.redo_build.specs.Schedule.Event.{Take, Hand_in, Look}
 use Rattle.redo_build.specs.Looking.{NoneDue}
-use Rattle.redo_build.specs.Takes.{place_of, takes, IsTaken}
+use Rattle.redo_build.specs.Takes.{takes, IsTaken}
 use Rattle.redo_build.specs.Theorems.{ShowsBuild}
 use Rattle.redo_build.specs.inside.Turns.{deps_at_turn, begins_at}
 use Rattle.redo_build.specs.inside.Standing.{AreStanding, decided_count, rounds}
@@ -22,15 +21,8 @@ use Rattle.redo_build.proofs.TurnLemmas.{only-Extends}
 use Rattle.redo_build.proofs.SoundLemmas.{IsSound, opening-sound, run-sound, happens-sound, nothing-standing}
 use Rattle.redo_build.proofs.QuietLemmas.{none-out, shows, never-due}
 use Rattle.redo_build.proofs.StartedLemmas.{IsStarted, IsStartedAt, AreRuled, decided-begins, new-started, new-ruled}
-use Rattle.redo_build.proofs.StartedLemmas.{take-of, take-on, take-now, take-from, take-ruled, hand-on, hand-from}
-use Rattle.redo_build.proofs.StartedLemmas.{hand-ruled, look-on, look-from, look-ruled}
-
-taken-append : (xs ys : List ((List ℕ) × ℕ)) (p : List ℕ) (n : ℕ) → IsTaken (xs ++ ys) p n → IsTaken xs p n ⊎ IsTaken ys p n
-taken-append [] ys p n m = inr m
-taken-append (x ∷ xs) ys p n m = elim m [
-  | inl here ↦ inl (inl here)
-  | inr later ↦ elim (taken-append xs ys p n later) [ inl l ↦ inl (inr l) | inr r ↦ inr r ]
-]
+use Rattle.redo_build.proofs.StartedLemmas.{event-on, event-from, event-ruled, taken-ruled}
+use Rattle.redo_build.proofs.OnceLemmas.{taken-cases, cases-taken}
 
 module _ (r : Rules) (lawful : AreLawful r) where
   module _ (request : List (List ℕ)) where
@@ -39,88 +31,36 @@ module _ (r : Rules) (lawful : AreLawful r) where
         r.has_rule p ≡ true →
         IsStartedAt r (run r events s).entries p → IsStartedAt r s.entries p ⊎ IsTaken (takes r events s) p 0
     started-from [] s sound open' p ruled h = inl h
-    started-from (Take which ∷ events) s sound open' p ruled h =
-        elim (started-from events (happens r s (Take which))
-        (happens-sound r lawful request s (Take which) sound open'.0) open'.1 p ruled h) [
-          | inl here ↦ elim (take-from r lawful request s sound which open'.0 p ruled here) [
+    started-from (event ∷ events) s sound open' p ruled h =
+        let next = happens-sound r lawful request s event sound open'.0 in
+        elim (started-from events (happens r s event) next open'.1 p ruled h) [
+          | inl here ↦ elim (event-from r lawful request s sound event open'.0 p ruled here) [
             | inl before ↦ inl before
-            | inr now ↦ inr (taken-left _ _ p 0 now)
+            | inr now ↦ inr (cases-taken r event events s p 0 (inl now))
           ]
-          | inr later ↦
-              inr (taken-right (place_of (option_and_then (entry_of s.entries) (slice_get s.ready which))) _ p 0 later)
-        ]
-      where
-        taken-left : (xs ys : List ((List ℕ) × ℕ)) (q : List ℕ) (n : ℕ) → IsTaken xs q n → IsTaken (xs ++ ys) q n
-        taken-left [] ys q n m = absurd m
-        taken-left (x ∷ xs) ys q n m = elim m [ inl here ↦ inl here | inr later ↦ inr (taken-left xs ys q n later) ]
-
-        taken-right : (xs ys : List ((List ℕ) × ℕ)) (q : List ℕ) (n : ℕ) → IsTaken ys q n → IsTaken (xs ++ ys) q n
-        taken-right [] ys q n m = m
-        taken-right (x ∷ xs) ys q n m = inr (taken-right xs ys q n m)
-    started-from (Hand_in target turn ∷ events) s sound open' p ruled h =
-        elim (started-from events (happens r s (Hand_in target turn))
-        (happens-sound r lawful request s (Hand_in target turn) sound open'.0) open'.1 p ruled h) [
-          | inl here ↦ inl (hand-from r lawful request s sound target turn open'.0 p ruled here)
-          | inr later ↦ inr later
-        ]
-    started-from (Look target ∷ events) s sound open' p ruled h =
-        elim (started-from events (happens r s (Look target))
-        (happens-sound r lawful request s (Look target) sound open'.0) open'.1 p ruled h) [
-          | inl here ↦ inl (look-from r lawful request s sound target open'.0 p ruled here)
-          | inr later ↦ inr later
+          | inr later ↦ inr (cases-taken r event events s p 0 (inr later))
         ]
 
     pub started-to : (events : List Event) (s : State) → IsSound r request s → AllOpen r s events → (p : List ℕ) →
         IsStartedAt r s.entries p ⊎ IsTaken (takes r events s) p 0 → IsStartedAt r (run r events s).entries p
     started-to [] s sound open' p h = elim h [ inl here ↦ here | inr none ↦ absurd none ]
-    started-to (Take which ∷ events) s sound open' p h =
-        started-to events (happens r s (Take which)) (happens-sound r lawful request s (Take which) sound open'.0)
-        open'.1 p (elim h [
-          | inl before ↦ inl (take-on r lawful request s sound which open'.0 p before)
-          | inr m ↦
-              elim (taken-append (place_of (option_and_then (entry_of s.entries) (slice_get s.ready which)))
-              (takes r events (happens r s (Take which))) p 0 m) [
-                | inl now ↦ inl (take-now r lawful request s sound which open'.0 p now)
-                | inr later ↦ inr later
-              ]
-        ])
-    started-to (Hand_in target turn ∷ events) s sound open' p h =
-        started-to events (happens r s (Hand_in target turn))
-        (happens-sound r lawful request s (Hand_in target turn) sound open'.0) open'.1 p (elim h [
-          | inl before ↦ inl (hand-on r lawful request s sound target turn open'.0 p before)
-          | inr later ↦ inr later
-        ])
-    started-to (Look target ∷ events) s sound open' p h =
-        started-to events (happens r s (Look target)) (happens-sound r lawful request s (Look target) sound open'.0)
-        open'.1 p (elim h [
-          | inl before ↦ inl (look-on r lawful request s sound target open'.0 p before)
-          | inr later ↦ inr later
+    started-to (event ∷ events) s sound open' p h =
+        let next = happens-sound r lawful request s event sound open'.0 in
+        let on = event-on r lawful request s sound event open'.0 p in
+        started-to events (happens r s event) next open'.1 p (elim h [
+          | inl before ↦ inl (on (inl before))
+          | inr m ↦ elim (taken-cases r event events s p 0 m) [ inl now ↦ inl (on (inr now)) | inr later ↦ inr later ]
         ])
 
     -- what is taken has a rule
-    taken-ruled : (events : List Event) (s : State) → IsSound r request s → AllOpen r s events → AreRuled r s.entries →
+    takes-ruled : (events : List Event) (s : State) → IsSound r request s → AllOpen r s events → AreRuled r s.entries →
         (p : List ℕ) (turn : ℕ) → IsTaken (takes r events s) p turn → r.has_rule p ≡ true
-    taken-ruled [] s sound open' ruled p turn m = absurd m
-    taken-ruled (Take which ∷ events) s sound open' ruled p turn m =
-        let next = happens-sound r lawful request s (Take which) sound open'.0 in
-        let of = take-of r lawful request s sound which open'.0 in
-        let rest = takes r events (happens r s (Take which)) in
-        let M : List ((List ℕ) × ℕ) → Type 0 = λ xs. IsTaken (xs ++ rest) p turn in
-        let here : IsTaken ((of.entry.path, of.entry.turn) ∷ rest) p turn = subst M of.place m in
-        let P : List ℕ → Type 0 = λ x. r.has_rule x ≡ true in
-        elim here [
-          | inl now ↦ subst P now.0 (ruled of.entry.path of.entry of.at of.open_yet)
-          | inr later ↦ taken-ruled events (happens r s (Take which)) next open'.1
-              (take-ruled r lawful request s sound which open'.0 ruled) p turn later
-        ]
-    taken-ruled (Hand_in target at ∷ events) s sound open' ruled p turn m =
-        let next = happens-sound r lawful request s (Hand_in target at) sound open'.0 in
-        taken-ruled events (happens r s (Hand_in target at)) next open'.1
-        (hand-ruled r lawful request s sound target at open'.0 ruled) p turn m
-    taken-ruled (Look target ∷ events) s sound open' ruled p turn m =
-        let next = happens-sound r lawful request s (Look target) sound open'.0 in
-        taken-ruled events (happens r s (Look target)) next open'.1
-        (look-ruled r lawful request s sound target open'.0 ruled) p turn m
+    takes-ruled [] s sound open' ruled p turn m = absurd m
+    takes-ruled (event ∷ events) s sound open' ruled p turn m = elim (taken-cases r event events s p turn m) [
+      | inl now ↦ taken-ruled r lawful request s sound event open'.0 ruled p turn now
+      | inr later ↦ takes-ruled events (happens r s event) (happens-sound r lawful request s event sound open'.0) open'.1
+          (event-ruled r lawful request s sound event open'.0 ruled) p turn later
+    ]
 
     -- at the opening nothing with a rule was begun
     opening-started : (p : List ℕ) → r.has_rule p ≡ true → IsStartedAt r (opening r request).entries p → ⊥
@@ -250,7 +190,7 @@ module _ (r : Rules) (lawful : AreLawful r) where
           (IsAmong (needed_at r request limit) p × (r.has_rule p ≡ true) × (r.begins p (outcome_at r limit) ≡ true))
       begun-needed p = (
         λ m.
-            let ruled = taken-ruled events (opening r request) (opening-sound r lawful request) all_open
+            let ruled = takes-ruled events (opening r request) (opening-sound r lawful request) all_open
             opening-ruled p 0 m in
             let both = (begun-exactly p ruled).0 m in
             (both.0, ruled, both.1),

@@ -1,22 +1,19 @@
 -- How many jobs are out, and how many may still be taken, after each event.
-use Rattle.std.proofs.Common.{◌≡◌, ℕ, suc, ◌+◌, ◌*◌, ◌-◌, ◌<◌, ◌≤◌, true, false, cond, inl, inr, List, [], ◌∷◌, ◌++◌}
-use Rattle.std.proofs.Common.{length, length-append, filter, Option, Some, None, is_some, slice_get, option_and_then}
+use Rattle.std.proofs.Common.{◌≡◌, ℕ, suc, ◌+◌, ◌*◌, ◌-◌, ◌<◌, ◌≤◌, false, cond, inl, inr, List, [], ◌∷◌, ◌++◌}
+use Rattle.std.proofs.Common.{length, length-append, filter, Option, Some, None, is_some, slice_get}
 use Rattle.std.proofs.Common.{refl, sym, ap, subst, ◌∙◌, arith, bytes_eq}
-use Rattle.std.proofs.lemmas.Bool.{cases_Bool, and_parts}
-use Rattle.redo_names.proofs.PathLemmas.{place-among}
+use Rattle.std.proofs.lemmas.Bool.{cases_Bool}
 use Rattle.redo_record.specs.Paths.{is_among}
 use Rattle.redo_build.specs.Rules.{Rules, AreLawful, operands}
 use Rattle.redo_build.specs.Outcomes.{requested_targets}
-use Rattle.redo_build.specs.Schedule.{Entry, State, paths_of, entry_of, new_entry, entered, put, sent_out, taken}
-use Rattle.redo_build.specs.Schedule.{advanced, moved_on, handed_in, happens, out_count, opening, IsOutAt}
-use Rattle.redo_build.specs.Schedule.{is_able_to_go_on, IsDueAt}
+use Rattle.redo_build.specs.Schedule.{Entry, State, Event, Phase, paths_of, entry_of, new_entry, entered, put, sent_out}
+use Rattle.redo_build.specs.Schedule.{advanced, moved_on, happens, out_count, opening, IsOutAt, IsDueAt}
 use Rattle.redo_build.specs.Schedule.Event.{Take, Hand_in, Look}
 use Rattle.redo_build.specs.Schedule.Phase.{Check, Script}
 use Rattle.redo_build.specs.TakesLeft.{turns_left, turns_of, takes_left}
-use Rattle.redo_build.proofs.SeenLemmas.{length-paths, length-put, new-inside, entry_of-path, entry_of-among, entry_of-put_same}
-use Rattle.redo_build.proofs.SeenLemmas.{entry_of-entered_old, entered-longer}
-use Rattle.redo_build.proofs.QueueLemmas.{slice_get-below}
-use Rattle.redo_build.proofs.SoundLemmas.{IsSound, due-parts, is_able_to_go_on-parts}
+use Rattle.redo_build.specs.inside.Standing.{is_script}
+use Rattle.redo_build.proofs.SeenLemmas.{length-paths, length-put, new-inside, entered-longer, phase_cases, put-new, wider-at}
+use Rattle.redo_build.proofs.SoundLemmas.{IsSound, GoesOn, take-of, hand-of, look-of}
 use Rattle.redo_build.proofs.TurnBoundLemmas.{turn-below}
 
 none-from : {A : Type 0} (o : Option A) → is_some o ≡ false → o ≡ None
@@ -110,64 +107,28 @@ module _ (r : Rules) where
       omega (arith, inside, whole)
 
 module _ (r : Rules) (lawful : AreLawful r) (request : List (List ℕ)) (s : State) (sound : IsSound r request s) where
-  at-path : (p : List ℕ) (e : Entry) → entry_of s.entries p ≡ Some e → entry_of s.entries e.path ≡ Some e
-  at-path p e h = let P : List ℕ → Type 0 = λ x. entry_of s.entries x ≡ Some e in subst P (sym (entry_of-path s.entries p e h)) h
-
-  -- what is ready at a place, and its entry
-  record IsReadyThere (which : ℕ) : Type 0 where
-    path : List ℕ
-    entry : Entry
-    ready : slice_get s.ready which ≡ Some path
-    at : entry_of s.entries path ≡ Some entry
-    open_yet : entry.outcome ≡ None
-    is_in : entry.is_out ≡ false
-    turn : entry.looks + entry.turn < length s.entries
-
-  ready-there : (which : ℕ) → which < length s.ready → IsReadyThere which
-  ready-there which below =
-      let spot = slice_get-below s.ready which below in
-      let among = place-among s.ready which spot.0 spot.1 in
-      let fed = sound.queued.ready_fed spot.0 among in
-      let turn = turn-below r lawful request s.entries sound.standing spot.0 fed.0 fed.1 fed.2 fed.3 in
-      record {
-        path = spot.0;
-        entry = fed.0;
-        ready = spot.1;
-        at = fed.1;
-        open_yet = fed.2;
-        is_in = sound.queued.apart spot.0 fed.0 among fed.1;
-        turn = omega (arith, turn, length-paths s.entries);
-      }
-
-  taken-is : (which : ℕ) (there : IsReadyThere which) → (happens r s (Take which)).entries ≡ put s.entries (sent_out there.entry)
-  taken-is which there =
-      let P : Option (List ℕ) → Type 0 = λ x. (taken s (option_and_then (entry_of s.entries) x) which).entries ≡ put s.entries (sent_out there.entry) in
-      let Q : Option Entry → Type 0 = λ x. (taken s x which).entries ≡ put s.entries (sent_out there.entry) in
-      subst P (sym there.ready) (subst Q (sym there.at) refl)
-
   -- one more job is out
   pub take-out : (which : ℕ) → which < length s.ready → out_count (happens r s (Take which)) ≡ out_count s + 1
   take-out which below =
-      let there = ready-there which below in
-      let moved = total-put one_out s.entries (sent_out there.entry) there.entry (at-path there.path there.entry there.at) in
-      let before : one_out there.entry ≡ 0 = rw there.is_in refl in
-      count-total (happens r s (Take which)).entries ∙ ap (total one_out) (taken-is which there) ∙
-      (let old = count-total s.entries in omega (arith, moved, before, old))
+      let of = take-of r lawful request s sound which below in
+      let moved = total-put one_out s.entries (sent_out of.entry) of.entry of.at in
+      let before : one_out of.entry ≡ 0 = rw of.is_in refl in
+      let old = count-total s.entries in
+      count-total (happens r s (Take which)).entries ∙ ap (λ (t : State). total one_out t.entries) of.is ∙
+      omega (arith, moved, before, old)
 
   -- it is out at its turn
   pub take-at : (which : ℕ) (p : List ℕ) (e : Entry) → which < length s.ready → slice_get s.ready which ≡ Some p → entry_of s.entries p ≡ Some e →
       IsOutAt (happens r s (Take which)) p e.turn
   take-at which p e below spot h =
-      let there = ready-there which below in
-      let same : there.path ≡ p = let both : Some there.path ≡ Some p = sym there.ready ∙ spot in cc in
+      let of = take-of r lawful request s sound which below in
+      let same : of.entry.path ≡ p = let both : Some of.entry.path ≡ Some p = sym of.ready ∙ spot in cc in
       let P : List ℕ → Type 0 = λ x. entry_of s.entries x ≡ Some e in
-      let is : there.entry ≡ e = let both : Some there.entry ≡ Some e = sym there.at ∙ subst P (sym same) h in cc in
-      let own : there.entry.path ≡ p = entry_of-path s.entries there.path there.entry there.at ∙ same in
-      let put' = entry_of-put_same s.entries (sent_out there.entry) (entry_of-among s.entries there.entry.path there.entry (at-path there.path there.entry there.at)) in
-      let Q : List ℕ → Type 0 = λ x. entry_of (put s.entries (sent_out there.entry)) x ≡ Some (sent_out there.entry) in
+      let is : of.entry ≡ e = let both : Some of.entry ≡ Some e = sym of.at ∙ subst P (sym same) h in cc in
+      let Q : List ℕ → Type 0 = λ x. entry_of (put s.entries (sent_out of.entry)) x ≡ Some (sent_out of.entry) in
       record {
-        entry = sent_out there.entry;
-        at = ap (λ es. entry_of es p) (taken-is which there) ∙ subst Q own put';
+        entry = sent_out of.entry;
+        at = ap (λ (t : State). entry_of t.entries p) of.is ∙ subst Q same (put-new s.entries (sent_out of.entry) of.entry of.at);
         is_out = refl;
         at_turn = ap (λ (x : Entry). x.turn) is;
       }
@@ -176,162 +137,105 @@ module _ (r : Rules) (lawful : AreLawful r) (request : List (List ℕ)) (s : Sta
   pub take-left : (which limit : ℕ) → which < length s.ready → length s.entries ≤ limit →
       takes_left limit (happens r s (Take which)) < takes_left limit s
   take-left which limit below few =
-      let there = ready-there which below in
-      let new = sent_out there.entry in
-      let moved = total-put (turns_left limit) s.entries new there.entry (at-path there.path there.entry there.at) in
-      let before : turns_left limit there.entry ≡ limit - (there.entry.looks + there.entry.turn + 0) =
-      rw (there.open_yet, there.is_in) refl in
-      let after : turns_left limit new ≡ limit - (there.entry.looks + there.entry.turn + 1) = rw there.open_yet refl in
-      let len = length-put s.entries new in
-      let rest = ap (λ n. limit * (limit - n)) len in
-      let whole = ap (left limit) (taken-is which there) in
-      omega (arith, moved, before, after, rest, whole, turns-total limit s.entries, turns-total limit (put s.entries new), there.turn, few)
+      let of = take-of r lawful request s sound which below in
+      let new = sent_out of.entry in
+      let moved = total-put (turns_left limit) s.entries new of.entry of.at in
+      let turn = turn-below r lawful request s.entries sound.standing of.entry.path of.entry of.at of.open_yet of.fed in
+      let before : turns_left limit of.entry ≡ limit - (of.entry.looks + of.entry.turn + 0) = rw (of.open_yet, of.is_in) refl in
+      let after : turns_left limit new ≡ limit - (of.entry.looks + of.entry.turn + 1) = rw of.open_yet refl in
+      let rest = ap (λ n. limit * (limit - n)) (length-put s.entries new) in
+      let whole = ap (takes_left limit) of.is in
+      omega (
+        arith,
+        moved,
+        before,
+        after,
+        rest,
+        whole,
+        turns-total limit s.entries,
+        turns-total limit (put s.entries new),
+        turn,
+        length-paths s.entries,
+        few,
+      )
 
-  -- what is handed in was out, and its entry is replaced
-  record IsHandedThere (target : List ℕ) (turn : ℕ) : Type 0 where
-    es : List Entry
-    new : Entry
-    old : Entry
-    entries : (happens r s (Hand_in target turn)).entries ≡ put es new
-    more : List (List ℕ)
-    from : es ≡ entered r s.entries more
-    at : entry_of es new.path ≡ Some old
-    was_out : old.is_out ≡ true
-    was_open : old.outcome ≡ None
-    is_in : new.is_out ≡ false
-    later : (new.outcome ≡ None) → new.looks + new.turn ≡ old.looks + old.turn + 1
+  -- a check or a script goes on: its entry is replaced
+  module _ (event : Event) (phase : Phase) (of : GoesOn r lawful request s event phase) where
+    abbrev asks : List (List ℕ)
+    asks = operands r (advanced r s.entries of.entry).deps
 
-  handed-there : (target : List ℕ) (turn : ℕ) → IsOutAt s target turn → IsHandedThere target turn
-  handed-there target turn out =
-      let e = out.entry in
-      let fed = sound.queued.out_fed target e out.at out.is_out in
-      let same : fed.0 ≡ e = let both : Some fed.0 ≡ Some e = sym fed.1 ∙ out.at in cc in
-      let now = advanced r s.entries e in
-      let P : Option Entry → Type 0 =
-      λ x. (handed_in r Script s x).entries ≡ put (entered r s.entries (operands r now.deps)) (moved_on Script e now) in
-      record {
-        es = entered r s.entries (operands r now.deps);
-        new = moved_on Script e now;
-        old = e;
-        entries = subst P (sym out.at) refl;
-        more = operands r now.deps;
-        from = refl;
-        at = entry_of-entered_old r s.entries (operands r now.deps) e.path e (at-path target e out.at);
-        was_out = out.is_out;
-        was_open = sym (ap (λ (x : Entry). x.outcome) same) ∙ fed.2;
-        is_in = refl;
-        later = λ none. rw none (omega arith);
-      }
+    abbrev wide : List Entry
+    wide = entered r s.entries asks
+
+    abbrev next : Entry
+    next = moved_on phase of.entry (advanced r s.entries of.entry)
+
+    going-total : (w : Entry → ℕ) → total w (happens r s event).entries + w of.entry ≡ total w wide + w next
+    going-total w = ap (λ (t : State). total w t.entries + w of.entry) of.is ∙
+        total-put w wide next of.entry (wider-at r s.entries asks next of.entry of.at)
+
+    -- one job fewer is out behind a script
+    going-out : out_count (happens r s event) + cond (is_script phase) 1 0 ≡ out_count s
+    going-out =
+        let moved = going-total one_out in
+        let before : one_out of.entry ≡ cond (is_script phase) 1 0 = ap {B = ℕ} (λ b. cond b 1 0) of.out in
+        let after : one_out next ≡ 0 = refl in
+        let counted = count-total (happens r s event).entries in
+        omega (arith, moved, before, after, counted, out-entered r s.entries asks, count-total s.entries)
+
+    stops : next.outcome ≡ None → next.looks + next.turn ≡ of.entry.looks + of.entry.turn + 1
+    stops none = elim (phase_cases phase) [ inl t ↦ rw (t, none) (omega arith) | inr f ↦ rw (f, none) (omega arith) ]
+
+    either : cond (is_script phase) 0 1 + cond (is_script phase) 1 0 ≡ 1
+    either = elim (phase_cases phase) [ inl t ↦ rw t refl | inr f ↦ rw f refl ]
+
+    -- it may go on once less, after a look
+    going-turns : (limit : ℕ) → of.entry.looks + of.entry.turn < limit →
+        turns_left limit next + cond (is_script phase) 0 1 ≤ turns_left limit of.entry
+    going-turns limit room =
+        let before : turns_left limit of.entry ≡ limit - (of.entry.looks + of.entry.turn + cond (is_script phase) 1 0) =
+        rw (of.parts.0, of.out) refl in
+        elim (cases_Bool (is_some next.outcome)) [
+          | inl t ↦ rw t (omega (arith, before, room, either))
+          | inr f ↦ let later = stops (none-from next.outcome f) in rw f (omega (arith, later, before, room, either))
+        ]
+
+    going-left : (limit : ℕ) → length (happens r s event).entries ≤ limit →
+        takes_left limit (happens r s event) + cond (is_script phase) 0 1 ≤ takes_left limit s
+    going-left limit few =
+        let moved = going-total (turns_left limit) in
+        let size = ap (λ (t : State). length t.entries) of.is ∙ length-put wide next in
+        let longer = entered-longer r s.entries asks in
+        let turn = turn-below r lawful request s.entries sound.standing of.entry.path of.entry of.at of.parts.0 of.parts.1 in
+        let after = going-turns limit (omega (arith, turn, length-paths s.entries, few, size, longer)) in
+        let inside = left-entered r limit s.entries asks (omega (arith, few, size)) in
+        let rest = ap (λ n. limit * (limit - n)) size in
+        omega (arith, moved, after, rest, inside, turns-total limit wide, turns-total limit (happens r s event).entries)
 
   -- one job fewer is out
   pub hand_in-out : (target : List ℕ) (turn : ℕ) → IsOutAt s target turn → out_count (happens r s (Hand_in target turn)) + 1 ≡ out_count s
-  hand_in-out target turn out =
-      let there = handed-there target turn out in
-      let moved = total-put one_out there.es there.new there.old there.at in
-      let before : one_out there.old ≡ 1 = rw there.was_out refl in
-      let after : one_out there.new ≡ 0 = rw there.is_in refl in
-      let same = ap (total one_out) there.from ∙ out-entered r s.entries there.more in
-      let counted = count-total (happens r s (Hand_in target turn)).entries ∙ ap (total one_out) there.entries in
-      let old = count-total s.entries in
-      omega (arith, moved, before, after, same, counted, old)
+  hand_in-out target turn out = going-out (Hand_in target turn) Script (hand-of r lawful request s sound target turn out)
 
   -- no more may be taken than before
   pub hand_in-left : (target : List ℕ) (turn limit : ℕ) → IsOutAt s target turn → length (happens r s (Hand_in target turn)).entries ≤ limit →
       takes_left limit (happens r s (Hand_in target turn)) ≤ takes_left limit s
   hand_in-left target turn limit out few =
-      let there = handed-there target turn out in
-      let moved = total-put (turns_left limit) there.es there.new there.old there.at in
-      let before : turns_left limit there.old ≡ limit - (there.old.looks + there.old.turn + 1) =
-      rw (there.was_open, there.was_out) refl in
-      let after : turns_left limit there.new ≤ limit - (there.old.looks + there.old.turn + 1) =
-      elim (cases_Bool (is_some there.new.outcome)) [
-        | inl t ↦ rw t (omega arith)
-        | inr f ↦ let later = there.later (none-from there.new.outcome f) in rw (f, there.is_in) (omega (arith, later))
-      ] in
-      let len = length-put there.es there.new in
-      let size = ap length there.entries in
-      let inside = left-entered r limit s.entries there.more (let at = ap length there.from in omega (arith, few, size, len, at)) in
-      let from = ap (left limit) there.from in
-      let rest = ap (λ n. limit * (limit - n)) len in
-      let whole = ap (left limit) there.entries in
-      omega (arith, moved, before, after, rest, whole, inside, from, turns-total limit there.es, turns-total limit (put there.es there.new))
+      let less : takes_left limit (happens r s (Hand_in target turn)) + 0 ≤ takes_left limit s =
+      going-left (Hand_in target turn) Script (hand-of r lawful request s sound target turn out) limit few in
+      omega (arith, less)
 
-  -- a look goes on with a check: an entry that is neither out nor decided is replaced
-  record IsLookedThere (target : List ℕ) : Type 0 where
-    es : List Entry
-    new : Entry
-    old : Entry
-    entries : (happens r s (Look target)).entries ≡ put es new
-    more : List (List ℕ)
-    from : es ≡ entered r s.entries more
-    at : entry_of es new.path ≡ Some old
-    was_in : old.is_out ≡ false
-    was_open : old.outcome ≡ None
-    is_in : new.is_out ≡ false
-    below : old.looks + old.turn < length s.entries
-    later : (new.outcome ≡ None) → new.looks + new.turn ≡ old.looks + old.turn + 1
-
-  looked-there : (target : List ℕ) → IsDueAt r s target → IsLookedThere target
-  looked-there target due =
-      let e = due.entry in
-      let parts = due-parts r lawful request s target e due.at due.due in
-      let inside = (is_able_to_go_on-parts r s e (and_parts (is_able_to_go_on r s e) _ due.due).0).2 in
-      let turn = turn-below r lawful request s.entries sound.standing target e due.at parts.0.0 parts.0.1 in
-      let now = advanced r s.entries e in
-      let P : Option Entry → Type 0 =
-      λ x. (handed_in r Check s x).entries ≡ put (entered r s.entries (operands r now.deps)) (moved_on Check e now) in
-      record {
-        es = entered r s.entries (operands r now.deps);
-        new = moved_on Check e now;
-        old = e;
-        entries = subst P (sym due.at) refl;
-        more = operands r now.deps;
-        from = refl;
-        at = entry_of-entered_old r s.entries (operands r now.deps) e.path e (at-path target e due.at);
-        was_in = inside;
-        was_open = parts.0.0;
-        is_in = refl;
-        below = omega (arith, turn, length-paths s.entries);
-        later = λ none. rw none (omega arith);
-      }
-
-  -- as many are out
+  -- behind a look as many are out
   pub look-out : (target : List ℕ) → IsDueAt r s target → out_count (happens r s (Look target)) ≡ out_count s
   look-out target due =
-      let there = looked-there target due in
-      let moved = total-put one_out there.es there.new there.old there.at in
-      let before : one_out there.old ≡ 0 = rw there.was_in refl in
-      let after : one_out there.new ≡ 0 = rw there.is_in refl in
-      let same = ap (total one_out) there.from ∙ out-entered r s.entries there.more in
-      let counted = count-total (happens r s (Look target)).entries ∙ ap (total one_out) there.entries in
-      let old = count-total s.entries in
-      omega (arith, moved, before, after, same, counted, old)
+      let same : out_count (happens r s (Look target)) + 0 ≡ out_count s =
+      going-out (Look target) Check (look-of r lawful request s target due) in
+      omega (arith, same)
 
   -- and fewer looks may follow: so the board's own events come to an end
   pub look-left : (target : List ℕ) (limit : ℕ) → IsDueAt r s target →
       length (happens r s (Look target)).entries ≤ limit →
       takes_left limit (happens r s (Look target)) < takes_left limit s
   look-left target limit due few =
-      let there = looked-there target due in
-      let moved = total-put (turns_left limit) there.es there.new there.old there.at in
-      let before : turns_left limit there.old ≡ limit - (there.old.looks + there.old.turn + 0) =
-      rw (there.was_open, there.was_in) refl in
-      let len = length-put there.es there.new in
-      let size = ap length there.entries in
-      let grown = ap length there.from in
-      let longer = entered-longer r s.entries there.more in
-      let room : there.old.looks + there.old.turn < limit =
-      (let below = there.below in omega (arith, below, few, size, len, grown, longer)) in
-      let after : turns_left limit there.new < turns_left limit there.old =
-      elim (cases_Bool (is_some there.new.outcome)) [
-        | inl t ↦ rw t (omega (arith, before, room))
-        | inr f ↦
-            let later = there.later (none-from there.new.outcome f) in rw (f, there.is_in)
-            (omega (arith, later, before, room))
-      ] in
-      let inside = left-entered r limit s.entries there.more (omega (arith, few, size, len, grown)) in
-      let from = ap (left limit) there.from in
-      let rest = ap (λ n. limit * (limit - n)) len in
-      let whole = ap (left limit) there.entries in
-      let sums = turns-total limit (put there.es there.new) in
-      omega (arith, moved, after, rest, whole, inside, from, turns-total limit there.es, sums)
+      let less : takes_left limit (happens r s (Look target)) + 1 ≤ takes_left limit s =
+      going-left (Look target) Check (look-of r lawful request s target due) limit few in
+      omega (arith, less)

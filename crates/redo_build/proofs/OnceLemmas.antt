@@ -1,19 +1,43 @@
 -- No target is taken twice at one turn.
-use Rattle.std.proofs.Common.{◌≡◌, ℕ, ◌<◌, ◌≤◌, true, ◌⊎◌, inl, inr, List, [], ◌∷◌, ◌++◌, Option, Some, None, is_some}
-use Rattle.std.proofs.Common.{option_and_then, refl, sym, ap, subst, ◌∙◌, arith, bytes_eq, false}
-use Rattle.std.proofs.lemmas.Bool.{cases_Bool, both_ways, and_parts}
-use Rattle.std.proofs.lemmas.Slice.Eq.{bytes_eq-Decides}
-use Rattle.redo_names.proofs.PathLemmas.{place-among}
+use Rattle.std.proofs.Common.{◌≡◌, ℕ, ◌<◌, ◌≤◌, true, ◌⊎◌, inl, inr, List, [], ◌∷◌, ◌++◌, Some, None, is_some}
+use Rattle.std.proofs.Common.{refl, sym, ap, subst, ◌∙◌, arith}
+use Rattle.std.proofs.lemmas.Bool.{cases_Bool, both_ways}
 use Rattle.redo_build.specs.Rules.{Rules, AreLawful, operands}
-use Rattle.redo_build.specs.Schedule.{Entry, State, Event, entry_of, entered, put, sent_out, taken, advanced, moved_on}
-use Rattle.redo_build.specs.Schedule.{handed_in, happens, IsOpen, AllOpen, is_able_to_go_on}
+use Rattle.redo_build.specs.Schedule.{Entry, State, Event, Phase, entry_of, entered, put, sent_out, advanced, moved_on}
+use Rattle.redo_build.specs.Schedule.{happens, IsOpen, AllOpen}
 use Rattle.redo_build.specs.Schedule.Event.{Take, Hand_in, Look}
 use Rattle.redo_build.specs.Schedule.Phase.{Check, Script}
-use Rattle.redo_build.specs.Takes.{place_of, takes, IsTaken, AreOnce}
-use Rattle.redo_build.proofs.SeenLemmas.{entry_of-path, entry_of-among, entry_of-entered_old, entry_of-put_same}
-use Rattle.redo_build.proofs.SeenLemmas.{entry_of-put_other}
-use Rattle.redo_build.proofs.QueueLemmas.{slice_get-below}
-use Rattle.redo_build.proofs.SoundLemmas.{IsSound, happens-sound, due-parts, is_able_to_go_on-parts}
+use Rattle.redo_build.specs.Takes.{takes, IsTaken, AreOnce}
+use Rattle.redo_build.specs.inside.Standing.{is_script}
+use Rattle.redo_build.proofs.SeenLemmas.{entry_of-entered_old, put-new, put-from, wider-at}
+use Rattle.redo_build.proofs.SoundLemmas.{IsSound, GoesOn, happens-sound, take-of, hand-of, look-of, taken_by, takes-first}
+
+taken-append : (xs ys : List ((List ℕ) × ℕ)) (p : List ℕ) (n : ℕ) → IsTaken (xs ++ ys) p n → IsTaken xs p n ⊎ IsTaken ys p n
+taken-append [] ys p n m = inr m
+taken-append (x ∷ xs) ys p n m = elim m [
+  | inl here ↦ inl (inl here)
+  | inr later ↦ elim (taken-append xs ys p n later) [ inl l ↦ inl (inr l) | inr r ↦ inr r ]
+]
+
+append-taken : (xs ys : List ((List ℕ) × ℕ)) (p : List ℕ) (n : ℕ) → IsTaken xs p n ⊎ IsTaken ys p n → IsTaken (xs ++ ys) p n
+append-taken [] ys p n m = elim m [ inl none ↦ absurd none | inr later ↦ later ]
+append-taken (x ∷ xs) ys p n m = elim m [
+  | inl l ↦ elim l [ inl here ↦ inl here | inr rest ↦ inr (append-taken xs ys p n (inl rest)) ]
+  | inr r ↦ inr (append-taken xs ys p n (inr r))
+]
+
+-- what is taken is taken by the first event or later
+pub taken-cases : (r : Rules) (event : Event) (events : List Event) (s : State) (p : List ℕ) (n : ℕ) →
+    IsTaken (takes r (event ∷ events) s) p n → IsTaken (taken_by s event) p n ⊎ IsTaken (takes r events (happens r s event)) p n
+taken-cases r event events s p n m =
+    let M : List ((List ℕ) × ℕ) → Type 0 = λ xs. IsTaken xs p n in
+    taken-append (taken_by s event) (takes r events (happens r s event)) p n (subst M (takes-first r event events s) m)
+
+pub cases-taken : (r : Rules) (event : Event) (events : List Event) (s : State) (p : List ℕ) (n : ℕ) →
+    IsTaken (taken_by s event) p n ⊎ IsTaken (takes r events (happens r s event)) p n → IsTaken (takes r (event ∷ events) s) p n
+cases-taken r event events s p n m =
+    let M : List ((List ℕ) × ℕ) → Type 0 = λ xs. IsTaken xs p n in
+    subst M (sym (takes-first r event events s)) (append-taken (taken_by s event) (takes r events (happens r s event)) p n m)
 
 -- how an entry may change
 pub record Evolves (old new : Entry) : Type 0 where
@@ -27,71 +51,45 @@ stays e = record { open_before = λ h. h; no_earlier = omega arith; out_or_later
 -- replacing an entry changes that one
 put-evolves : (es : List Entry) (new : Entry) (old : Entry) → entry_of es new.path ≡ Some old → Evolves old new →
     (p : List ℕ) (e : Entry) → entry_of es p ≡ Some e → (f : Entry) × (entry_of (put es new) p ≡ Some f) × Evolves e f
-put-evolves es new old at how p e h = elim (cases_Bool (bytes_eq new.path p)) [
-  | inl t ↦
-      let same = (bytes_eq-Decides new.path p).0 t in
-      let P : List ℕ → Type 0 = λ x. entry_of (put es new) x ≡ Some new in
-      let Q : List ℕ → Type 0 = λ x. entry_of es x ≡ Some old in
-      let is : old ≡ e = let both : Some old ≡ Some e = sym (subst Q same at) ∙ h in cc in
-      let R : Entry → Type 0 = λ x. Evolves x new in
-      (new, subst P same (entry_of-put_same es new (entry_of-among es new.path old at)), subst R is how)
-  | inr f ↦
-      (e, entry_of-put_other es new p (λ same. both_ways _ f ((bytes_eq-Decides new.path p).1 same)) ∙ h, stays e)
+put-evolves es new old at how p e h = elim (put-from es new old at p e h) [
+  | inl here ↦ let R : Entry → Type 0 = λ x. Evolves x new in (new, here.2, subst R (sym here.0) how)
+  | inr other ↦ (e, other.1, stays e)
 ]
 
-pub at_path : (es : List Entry) (p : List ℕ) (e : Entry) → entry_of es p ≡ Some e → entry_of es e.path ≡ Some e
-at_path es p e h = let P : List ℕ → Type 0 = λ x. entry_of es x ≡ Some e in subst P (sym (entry_of-path es p e h)) h
+moved-evolves : (r : Rules) (phase : Phase) (es : List Entry) (e : Entry) → e.outcome ≡ None → e.is_out ≡ is_script phase →
+    Evolves e (moved_on phase e (advanced r es e))
+moved-evolves r Check es e open' inside = record {
+  open_before = λ h. open';
+  no_earlier = omega arith;
+  out_or_later = λ h. absurd (both_ways _ inside h);
+}
+moved-evolves r Script es e open' out = record {
+  open_before = λ h. open';
+  no_earlier = elim (cases_Bool (is_some (advanced r es e).outcome)) [ inl t ↦ rw t (omega arith) | inr f ↦ rw f (omega arith) ];
+  out_or_later = λ h. inr (λ none. rw none (omega arith));
+}
 
 module _ (r : Rules) (lawful : AreLawful r) (request : List (List ℕ)) where
-  looked-evolves : (es : List Entry) (e : Entry) → e.outcome ≡ None → e.is_out ≡ false →
-      Evolves e (moved_on Check e (advanced r es e))
-  looked-evolves es e open' inside = record {
-    open_before = λ h. open';
-    no_earlier = omega arith;
-    out_or_later = λ h. absurd (both_ways _ inside h);
-  }
-
-  moved-evolves : (es : List Entry) (e : Entry) → e.outcome ≡ None → Evolves e (moved_on Script e (advanced r es e))
-  moved-evolves es e open' = record {
-    open_before = λ h. open';
-    no_earlier = elim (cases_Bool (is_some (advanced r es e).outcome)) [ inl t ↦ rw t (omega arith) | inr f ↦ rw f (omega arith) ];
-    out_or_later = λ h. inr (λ none. rw none (omega arith));
-  }
+  going-evolves : (s : State) (event : Event) (phase : Phase) → GoesOn r lawful request s event phase → (p : List ℕ) (e : Entry) →
+      entry_of s.entries p ≡ Some e → (f : Entry) × (entry_of (happens r s event).entries p ≡ Some f) × Evolves e f
+  going-evolves s event phase of p e h =
+      let new = operands r (advanced r s.entries of.entry).deps in
+      let next = moved_on phase of.entry (advanced r s.entries of.entry) in
+      let P : State → Type 0 = λ t. (f : Entry) × (entry_of t.entries p ≡ Some f) × Evolves e f in
+      subst P (sym of.is) (put-evolves (entered r s.entries new) next of.entry (wider-at r s.entries new next of.entry of.at)
+      (moved-evolves r phase s.entries of.entry of.parts.0 of.out) p e (entry_of-entered_old r s.entries new p e h))
 
   happens-evolves : (s : State) (event : Event) → IsSound r request s → IsOpen r s event → (p : List ℕ) (e : Entry) →
       entry_of s.entries p ≡ Some e → (f : Entry) × (entry_of (happens r s event).entries p ≡ Some f) × Evolves e f
   happens-evolves s (Take which) sound open' p e h =
-      let at = slice_get-below s.ready which open' in
-      let fed = sound.queued.ready_fed at.0 (place-among s.ready which at.0 at.1) in
-      let P : Option (List ℕ) → Type 0 = λ x. (f : Entry) × (entry_of (taken s (option_and_then (entry_of s.entries) x) which).entries p ≡ Some f) × Evolves e f in
-      let Q : Option Entry → Type 0 = λ x. (f : Entry) × (entry_of (taken s x which).entries p ≡ Some f) × Evolves e f in
-      subst P (sym at.1) (subst Q (sym fed.1)
-      (put-evolves s.entries (sent_out fed.0) fed.0 (at_path s.entries at.0 fed.0 fed.1)
-      (record { open_before = λ k. k; no_earlier = omega arith; out_or_later = λ k. inl refl }) p e h))
+      let of = take-of r lawful request s sound which open' in
+      let P : State → Type 0 = λ t. (f : Entry) × (entry_of t.entries p ≡ Some f) × Evolves e f in
+      subst P (sym of.is) (put-evolves s.entries (sent_out of.entry) of.entry of.at
+      (record { open_before = λ k. k; no_earlier = omega arith; out_or_later = λ k. inl refl }) p e h)
   happens-evolves s (Hand_in target turn) sound open' p e h =
-      let fed = sound.queued.out_fed target open'.entry open'.at open'.is_out in
-      let same : fed.0 ≡ open'.entry = let both : Some fed.0 ≡ Some open'.entry = sym fed.1 ∙ open'.at in cc in
-      let P : Option Entry → Type 0 = λ x. (f : Entry) × (entry_of (handed_in r Script s x).entries p ≡ Some f) ×
-      Evolves e f in
-      let new = operands r (advanced r s.entries open'.entry).deps in
-      subst P (sym open'.at)
-      (put-evolves (entered r s.entries new) (moved_on Script open'.entry (advanced r s.entries open'.entry))
-      open'.entry
-      (entry_of-entered_old r s.entries new open'.entry.path open'.entry (at_path s.entries target open'.entry open'.at))
-      (moved-evolves s.entries open'.entry (sym (ap (λ (x : Entry). x.outcome) same) ∙ fed.2))
-      p e (entry_of-entered_old r s.entries new p e h))
+      going-evolves s (Hand_in target turn) Script (hand-of r lawful request s sound target turn open') p e h
   happens-evolves s (Look target) sound open' p e h =
-      let parts = due-parts r lawful request s target open'.entry open'.at open'.due in
-      let inside =
-      (is_able_to_go_on-parts r s open'.entry (and_parts (is_able_to_go_on r s open'.entry) _ open'.due).0).2 in
-      let P : Option Entry → Type 0 = λ x. (f : Entry) × (entry_of (handed_in r Check s x).entries p ≡ Some f) ×
-      Evolves e f in
-      let new = operands r (advanced r s.entries open'.entry).deps in
-      subst P (sym open'.at)
-      (put-evolves (entered r s.entries new) (moved_on Check open'.entry (advanced r s.entries open'.entry)) open'.entry
-      (entry_of-entered_old r s.entries new open'.entry.path open'.entry (at_path s.entries target open'.entry open'.at))
-      (looked-evolves s.entries open'.entry parts.0.0 inside)
-      p e (entry_of-entered_old r s.entries new p e h))
+      going-evolves s (Look target) Check (look-of r lawful request s target open') p e h
 
   after-step : (event : Event) (events : List Event) (s : State) → IsSound r request s → IsOpen r s event →
       AllOpen r (happens r s event) events → (p : List ℕ) (turn : ℕ) → IsTaken (takes r events (happens r s event)) p turn →
@@ -110,57 +108,52 @@ module _ (r : Rules) (lawful : AreLawful r) (request : List (List ℕ)) where
         ],
       )
 
+  -- what is taken now is at its turn
+  taken-now : (s : State) (event : Event) → IsSound r request s → IsOpen r s event → (p : List ℕ) (turn : ℕ) →
+      IsTaken (taken_by s event) p turn → (e : Entry) → entry_of s.entries p ≡ Some e →
+      (e.outcome ≡ None) × (e.turn ≤ turn) × (e.is_out ≡ true → e.turn < turn)
+  taken-now s (Take which) sound open' p turn m e h =
+      let of = take-of r lawful request s sound which open' in
+      let M : List ((List ℕ) × ℕ) → Type 0 = λ xs. IsTaken xs p turn in
+      elim (subst M of.place m) [
+        | inl now ↦
+            let R : List ℕ → Type 0 = λ x. entry_of s.entries x ≡ Some of.entry in
+            let same : of.entry ≡ e = let both : Some of.entry ≡ Some e = sym (subst R now.0 of.at) ∙ h in cc in
+            let at = ap (λ (x : Entry). x.turn) same in (
+              sym (ap (λ (x : Entry). x.outcome) same) ∙ of.open_yet,
+              omega (arith, at, now.1),
+              λ out. absurd (both_ways _ of.is_in (ap (λ (x : Entry). x.is_out) same ∙ out)),
+            )
+        | inr none ↦ absurd none
+      ]
+  taken-now s _ sound open' p turn m e h = absurd m
+
   -- what is taken from a state on has not passed its turn there
   taken-later : (events : List Event) (s : State) → IsSound r request s → AllOpen r s events → (p : List ℕ) (turn : ℕ) →
       IsTaken (takes r events s) p turn → (e : Entry) → entry_of s.entries p ≡ Some e →
       (e.outcome ≡ None) × (e.turn ≤ turn) × (e.is_out ≡ true → e.turn < turn)
   taken-later [] s sound open' p turn m e h = absurd m
-  taken-later (Take which ∷ events) s sound open' p turn m e h =
-      let at = slice_get-below s.ready which open'.0 in
-      let among = place-among s.ready which at.0 at.1 in
-      let fed = sound.queued.ready_fed at.0 among in
-      let P : Option (List ℕ) → Type 0 = λ x. IsTaken (place_of (option_and_then (entry_of s.entries) x) ++ takes r events (happens r s (Take which))) p turn in
-      let Q : Option Entry → Type 0 = λ x. IsTaken (place_of x ++ takes r events (happens r s (Take which))) p turn in
-      let here : IsTaken ((fed.0.path, fed.0.turn) ∷ takes r events (happens r s (Take which))) p turn = subst Q fed.1 (subst P at.1 m) in
-      elim here [
-        | inl now ↦
-            let place : at.0 ≡ p = sym (entry_of-path s.entries at.0 fed.0 fed.1) ∙ now.0 in
-            let R : List ℕ → Type 0 = λ x. entry_of s.entries x ≡ Some e in
-            let there : entry_of s.entries at.0 ≡ Some e = subst R (sym place) h in
-            let same : fed.0 ≡ e = let both : Some fed.0 ≡ Some e = sym fed.1 ∙ there in cc in (
-              sym (ap (λ (x : Entry). x.outcome) same) ∙ fed.2,
-              (let e1 = ap (λ (x : Entry). x.turn) same in omega (arith, e1, now.1)),
-              λ out. absurd (both_ways _ (sound.queued.apart at.0 e among there) out),
-            )
-        | inr later ↦ after-step (Take which) events s sound open'.0 open'.1 p turn later e h
-            (taken-later events (happens r s (Take which)) (happens-sound r lawful request s (Take which) sound open'.0) open'.1 p turn later)
+  taken-later (event ∷ events) s sound open' p turn m e h =
+      let next = happens-sound r lawful request s event sound open'.0 in
+      elim (taken-cases r event events s p turn m) [
+        | inl now ↦ taken-now s event sound open'.0 p turn now e h
+        | inr later ↦ after-step event events s sound open'.0 open'.1 p turn later e h
+            (taken-later events (happens r s event) next open'.1 p turn later)
       ]
-  taken-later (Hand_in target at ∷ events) s sound open' p turn m e h =
-      after-step (Hand_in target at) events s sound open'.0 open'.1 p turn m e h
-      (taken-later events (happens r s (Hand_in target at)) (happens-sound r lawful request s (Hand_in target at) sound open'.0) open'.1 p turn m)
-  taken-later (Look target ∷ events) s sound open' p turn m e h =
-      after-step (Look target) events s sound open'.0 open'.1 p turn m e h
-      (taken-later events (happens r s (Look target)) (happens-sound r lawful request s (Look target) sound open'.0)
-      open'.1 p turn m)
 
   pub takes-once : (events : List Event) (s : State) → IsSound r request s → AllOpen r s events → AreOnce (takes r events s)
   takes-once [] s sound open' = tt
   takes-once (Take which ∷ events) s sound open' =
-      let at = slice_get-below s.ready which open'.0 in
-      let fed = sound.queued.ready_fed at.0 (place-among s.ready which at.0 at.1) in
+      let of = take-of r lawful request s sound which open'.0 in
       let next = happens-sound r lawful request s (Take which) sound open'.0 in
-      let P : Option (List ℕ) → Type 0 = λ x. AreOnce (place_of (option_and_then (entry_of s.entries) x) ++ takes r events (happens r s (Take which))) in
-      let Q : Option Entry → Type 0 = λ x. AreOnce (place_of x ++ takes r events (happens r s (Take which))) in
-      let A : Option (List ℕ) → Type 0 = λ x. entry_of (taken s (option_and_then (entry_of s.entries) x) which).entries fed.0.path ≡ Some (sent_out fed.0) in
-      let B : Option Entry → Type 0 = λ x. entry_of (taken s x which).entries fed.0.path ≡ Some (sent_out fed.0) in
-      let entry = at_path s.entries at.0 fed.0 fed.1 in
-      let there = subst A (sym at.1) (subst B (sym fed.1) (entry_of-put_same s.entries (sent_out fed.0) (entry_of-among s.entries fed.0.path fed.0 entry))) in
-      subst P (sym at.1) (subst Q (sym fed.1) (
+      let P : List ((List ℕ) × ℕ) → Type 0 = λ xs. AreOnce (xs ++ takes r events (happens r s (Take which))) in
+      let there = ap (λ (t : State). entry_of t.entries of.entry.path) of.is ∙ put-new s.entries (sent_out of.entry) of.entry of.at in
+      subst P (sym of.place) (
         (λ m.
-            let later = taken-later events (happens r s (Take which)) next open'.1 fed.0.path fed.0.turn m (sent_out fed.0) there in
+            let later = taken-later events (happens r s (Take which)) next open'.1 of.entry.path of.entry.turn m (sent_out of.entry) there in
             absurd (let above = later.2 refl in omega (arith, above))),
         takes-once events (happens r s (Take which)) next open'.1,
-      ))
+      )
   takes-once (Hand_in target at ∷ events) s sound open' =
       takes-once events (happens r s (Hand_in target at)) (happens-sound r lawful request s (Hand_in target at) sound open'.0) open'.1
   takes-once (Look target ∷ events) s sound open' =

@@ -1,6 +1,6 @@
 -- Lemmas on lists of entries.
 use Rattle.std.proofs.Common.{◌≡◌, ℕ, suc, ◌+◌, ◌<◌, ◌≤◌, true, false, cond, ◌⊎◌, inl, inr, List, [], ◌∷◌, ◌++◌, length}
-use Rattle.std.proofs.Common.{Some, None, is_some, refl, sym, ap, ◌∙◌, arith, bytes_eq, length-append}
+use Rattle.std.proofs.Common.{Some, None, is_some, refl, sym, ap, subst, ◌∙◌, arith, bytes_eq, length-append}
 use Rattle.std.proofs.lemmas.Bool.{cases_Bool, both_ways}
 use Rattle.std.proofs.lemmas.Slice.Eq.{bytes_eq-Decides}
 use Rattle.redo_record.specs.Paths.{is_among, with_new, IsAmong}
@@ -101,6 +101,41 @@ entry_of-put_other (x ∷ es) e p other = elim (cases_Bool (bytes_eq x.path e.pa
       | inl t' ↦ absurd (h ((bytes_eq-Decides a b).0 t'))
       | inr f' ↦ f'
     ]
+
+-- an entry is put where another one stood
+module _ (es : List Entry) (new old : Entry) (at : entry_of es new.path ≡ Some old) where
+  pub put-new : entry_of (put es new) new.path ≡ Some new
+  put-new = entry_of-put_same es new (entry_of-among es new.path old at)
+
+  -- what stood somewhere is that one, or stays
+  pub put-from : (p : List ℕ) (x : Entry) → entry_of es p ≡ Some x →
+      ((x ≡ old) × (new.path ≡ p) × (entry_of (put es new) p ≡ Some new)) ⊎
+      ((new.path ≡ p → ⊥) × (entry_of (put es new) p ≡ Some x))
+  put-from p x h = elim (cases_Bool (bytes_eq new.path p)) [
+    | inl t ↦
+        let same = (bytes_eq-Decides new.path p).0 t in
+        let P : List ℕ → Type 0 = λ q. (entry_of es q ≡ Some old) × (entry_of (put es new) q ≡ Some new) in
+        let here = subst P same (at, put-new) in
+        let is : x ≡ old = let both : Some x ≡ Some old = sym h ∙ here.0 in cc in
+        inl (is, same, here.1)
+    | inr f ↦
+        let other : new.path ≡ p → ⊥ = λ same. both_ways _ f ((bytes_eq-Decides new.path p).1 same) in
+        inr (other, entry_of-put_other es new p other ∙ h)
+  ]
+
+  -- what stands somewhere then is the new one, or stood there
+  pub put-cases : (p : List ℕ) (x : Entry) → entry_of (put es new) p ≡ Some x →
+      ((new.path ≡ p) × (x ≡ new)) ⊎ ((new.path ≡ p → ⊥) × (entry_of es p ≡ Some x))
+  put-cases p x h = elim (cases_Bool (bytes_eq new.path p)) [
+    | inl t ↦
+        let same = (bytes_eq-Decides new.path p).0 t in
+        let P : List ℕ → Type 0 = λ q. entry_of (put es new) q ≡ Some new in
+        let is : x ≡ new = let both : Some x ≡ Some new = sym h ∙ subst P same put-new in cc in
+        inl (same, is)
+    | inr f ↦
+        let other : new.path ≡ p → ⊥ = λ same. both_ways _ f ((bytes_eq-Decides new.path p).1 same) in
+        inr (other, sym (entry_of-put_other es new p other) ∙ h)
+  ]
 
 pub decided_count-length : (es : List Entry) → decided_count es ≤ length (paths_of es)
 decided_count-length [] = omega arith
@@ -225,6 +260,29 @@ module _ (r : Rules) where
   decided_count-entered es (q ∷ ps) = elim (cases_Bool (is_among (paths_of es) q)) [
     | inl t ↦ rw t (decided_count-entered es ps)
     | inr f ↦ rw f (omega (arith, decided_count-push es (new_entry r q), decided_count-entered (es ++ new_entry r q ∷ []) ps))
+  ]
+
+-- the same, once paths were entered
+module _ (r : Rules) (es : List Entry) (more : List (List ℕ)) (new old : Entry) (at : entry_of es new.path ≡ Some old) where
+  pub wider-at : entry_of (entered r es more) new.path ≡ Some old
+  wider-at = entry_of-entered_old r es more new.path old at
+
+  pub replaced-from : (p : List ℕ) (x : Entry) → entry_of es p ≡ Some x →
+      ((x ≡ old) × (new.path ≡ p) × (entry_of (put (entered r es more) new) p ≡ Some new)) ⊎
+      ((new.path ≡ p → ⊥) × (entry_of (put (entered r es more) new) p ≡ Some x))
+  replaced-from p x h = put-from (entered r es more) new old wider-at p x (entry_of-entered_old r es more p x h)
+
+  pub replaced-cases : (p : List ℕ) (x : Entry) → entry_of (put (entered r es more) new) p ≡ Some x →
+      ((new.path ≡ p) × (x ≡ new)) ⊎ ((new.path ≡ p → ⊥) × ((entry_of es p ≡ Some x) ⊎ (x ≡ new_entry r p)))
+  replaced-cases p x h = elim (put-cases (entered r es more) new old wider-at p x h) [
+    | inl here ↦ inl here
+    | inr other ↦ inr (
+      other.0,
+      elim (entry_of-entered_cases r es more p x other.1) [
+        | inl was ↦ inl was
+        | inr fresh ↦ inr fresh.1
+      ],
+    )
   ]
 
 pub entered-longer : (r : Rules) (es : List Entry) (ps : List (List ℕ)) → length es ≤ length (entered r es ps)

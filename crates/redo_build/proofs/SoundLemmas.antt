@@ -1,10 +1,10 @@
 -- What holds of every state that a run of open events reaches.
-use Rattle.std.proofs.Common.{◌≡◌, ℕ, Bool, true, false, ◌⊎◌, inl, inr, List, [], ◌∷◌, filter, Option, Some, None}
-use Rattle.std.proofs.Common.{is_none, slice_get, remove, option_and_then, refl, sym, ap, subst, ◌∙◌, bytes_eq}
+use Rattle.std.proofs.Common.{◌≡◌, ℕ, ◌<◌, Bool, true, false, ◌⊎◌, inl, inr, List, [], ◌∷◌, ◌++◌, filter, length}
+use Rattle.std.proofs.Common.{Option, Some, None}
+use Rattle.std.proofs.Common.{is_none, slice_get, remove, option_and_then, refl, sym, ap, subst, ◌∙◌}
 use Rattle.std.specs.List.{list_any}
 use Rattle.std.proofs.lemmas.Bool.{cases_Bool, both_ways, and_parts, or_parts, or_cases, not-true, not-false}
 use Rattle.std.proofs.lemmas.Bool.{not_from_false, and_from}
-use Rattle.std.proofs.lemmas.Slice.Eq.{bytes_eq-Decides}
 use Rattle.redo_names.proofs.ListLemmas.{IsAmong-same, IsAmong-append, IsAmong-left, IsAmong-right}
 use Rattle.redo_names.proofs.PathLemmas.{among-told, place-among, told-among}
 use Rattle.redo_record.specs.Paths.{is_among, IsAmong, AreDistinct}
@@ -15,21 +15,22 @@ use Rattle.redo_build.specs.Outcomes.{outcome_at, requested_targets}
 use Rattle.redo_build.specs.Schedule.{Entry, State, Event, paths_of, entry_of, outcomes_of, only, entered}
 use Rattle.redo_build.specs.Schedule.{put, lacks_none, is_able_to_go_on, enqueued, opening, sent_out, taken}
 use Rattle.redo_build.specs.Schedule.{advanced, moved_on, handed_in, happens, IsOpen, run, AllOpen, known_to, may_run}
-use Rattle.redo_build.specs.Schedule.{is_due, Phase}
+use Rattle.redo_build.specs.Schedule.{is_due, IsDueAt, IsOutAt, Phase}
 use Rattle.redo_build.specs.Schedule.Event.{Take, Hand_in, Look}
 use Rattle.redo_build.specs.Schedule.Phase.{Check, Script}
 use Rattle.redo_build.specs.inside.Standing.{AreStanding, IsNeeded, decided_count, is_script}
 use Rattle.redo_build.proofs.DepthLemmas.{cases_Option, operand-target, requested-target}
 use Rattle.redo_build.proofs.SeenLemmas.{entry_of-path, entry_of-among, paths_of-put}
 use Rattle.redo_build.proofs.SeenLemmas.{entry_of-entered_old, entry_of-entered_cases, entry_of-put_other}
-use Rattle.redo_build.proofs.SeenLemmas.{entry_of-put_same, new-inside, nowhere}
+use Rattle.redo_build.proofs.SeenLemmas.{put-cases, put-from, replaced-cases, new-inside, nowhere}
 use Rattle.redo_build.proofs.QueueLemmas.{slice_get-below, remove-cases, remove-from, remove-distinct}
 use Rattle.redo_build.proofs.QueueLemmas.{remove-gone, AreDistinct-append, paths_of-filter_from, paths_of-filter_to}
 use Rattle.redo_build.proofs.QueueLemmas.{paths_of-filter_distinct}
 use Rattle.redo_build.proofs.TurnLemmas.{only-Extends, progress-more, begins-more}
 use Rattle.redo_build.proofs.StandingLemmas.{IsNeeded-asked, outcomes_of-deep, entered-outcomes, paths-entered}
-use Rattle.redo_build.proofs.StandingLemmas.{entered-standing, put-outcomes, put-standing, sent-cases, sent-outcomes}
+use Rattle.redo_build.proofs.StandingLemmas.{entered-standing, moved-outcomes, moved-standing, sent-outcomes}
 use Rattle.redo_build.proofs.StandingLemmas.{sent-standing}
+use Rattle.redo_build.specs.Takes.{place_of, takes}
 
 -- the path has an entry that isn't decided, that has every answer that it asked for, and whose script is begun
 abbrev pub IsFed : Rules → List Entry → List ℕ → Type 0
@@ -57,6 +58,17 @@ pub record IsSound (r : Rules) (request : List (List ℕ)) (s : State) : Type 0 
   pub requested : (p : List ℕ) → IsAmong (requested_targets r request) p → IsAmong (paths_of s.entries) p
   pub queued : AreQueued r s
   pub others_wait : AllOthersWait r s
+
+-- what an event takes
+abbrev pub taken_by : State → Event → List ((List ℕ) × ℕ)
+taken_by s (Take which) = place_of (option_and_then (entry_of s.entries) (slice_get s.ready which))
+taken_by s _ = []
+
+pub takes-first : (r : Rules) (event : Event) (events : List Event) (s : State) →
+    takes r (event ∷ events) s ≡ taken_by s event ++ takes r events (happens r s event)
+takes-first r (Take which) events s = refl
+takes-first r (Hand_in target turn) events s = refl
+takes-first r (Look target) events s = refl
 
 pub list_any-true : (f : List ℕ → Bool) (ps : List (List ℕ)) → list_any f ps ≡ true → (q : List ℕ) × IsAmong ps q ×
     (f q ≡ true)
@@ -228,26 +240,48 @@ module _ (r : Rules) (lawful : AreLawful r) (request : List (List ℕ)) where
         apart = λ p e m at. absurd m;
       })
 
-  module _ (s : State) (sound : IsSound r request s) (which : ℕ) (p : List ℕ) (e : Entry) (at : slice_get s.ready which ≡ Some p)
-      (entry : entry_of s.entries p ≡ Some e) where
-    take_path : e.path ≡ p
-    take_path = entry_of-path s.entries p e entry
+  -- the entry of what is taken
+  pub record IsTakeOf (s : State) (which : ℕ) : Type 0 where
+    pub entry : Entry
+    pub ready : slice_get s.ready which ≡ Some entry.path
+    pub at : entry_of s.entries entry.path ≡ Some entry
+    pub open_yet : entry.outcome ≡ None
+    pub fed : (q : List ℕ) → IsAmong (operands r entry.deps) q → outcomes_of s.entries q ≡ None → ⊥
+    pub is_in : entry.is_out ≡ false
+    pub is : happens r s (Take which) ≡ taken s (Some entry) which
+    pub place : taken_by s (Take which) ≡ (entry.path, entry.turn) ∷ []
 
-    take_entry : entry_of s.entries e.path ≡ Some e
-    take_entry = let P : List ℕ → Type 0 = λ x. entry_of s.entries x ≡ Some e in subst P (sym take_path) entry
+  pub take-of : (s : State) → IsSound r request s → (which : ℕ) → which < length s.ready → IsTakeOf s which
+  take-of s sound which below =
+      let spot = slice_get-below s.ready which below in
+      let among = place-among s.ready which spot.0 spot.1 in
+      let fed = sound.queued.ready_fed spot.0 among in
+      let path = entry_of-path s.entries spot.0 fed.0 fed.1 in
+      let P : List ℕ → Type 0 = λ x. entry_of s.entries x ≡ Some fed.0 in
+      let own : entry_of s.entries fed.0.path ≡ Some fed.0 = subst P (sym path) fed.1 in
+      let ready : slice_get s.ready which ≡ Some fed.0.path = spot.1 ∙ ap Some (sym path) in
+      let found : option_and_then (entry_of s.entries) (slice_get s.ready which) ≡ Some fed.0 =
+      ap (option_and_then (entry_of s.entries)) ready ∙ own in
+      record {
+        entry = fed.0;
+        ready = ready;
+        at = own;
+        open_yet = fed.2;
+        fed = fed.3;
+        is_in = sound.queued.apart spot.0 fed.0 among fed.1;
+        is = ap (λ x. taken s x which) found;
+        place = ap place_of found;
+      }
 
-    take_open : e.outcome ≡ None
-    take_open =
-        let fed = sound.queued.ready_fed p (place-among s.ready which p at) in
-        let same : fed.0 ≡ e = let both : Some fed.0 ≡ Some e = sym fed.1 ∙ entry in cc in
-        sym (ap (λ (x : Entry). x.outcome) same) ∙ fed.2
+  module _ (s : State) (sound : IsSound r request s) (which : ℕ) (of : IsTakeOf s which) where
+    abbrev e : Entry
+    e = of.entry
 
-    take_cases : (q : List ℕ) (x : Entry) → entry_of (put s.entries (sent_out e)) q ≡ Some x →
-        ((e.path ≡ q) × (x ≡ sent_out e)) ⊎ (entry_of s.entries q ≡ Some x)
-    take_cases = sent-cases r lawful request s.entries sound.standing e take_entry take_open
+    take_among : IsAmong s.ready of.entry.path
+    take_among = place-among s.ready which e.path of.ready
 
-    take_lacks : (q : List ℕ) → outcomes_of (put s.entries (sent_out e)) q ≡ outcomes_of s.entries q
-    take_lacks = sent-outcomes r lawful request s.entries sound.standing e take_entry take_open
+    take_lacks : (q : List ℕ) → outcomes_of (put s.entries (sent_out of.entry)) q ≡ outcomes_of s.entries q
+    take_lacks = sent-outcomes r lawful request s.entries sound.standing e of.at of.open_yet
 
     take_begins : (x : Entry) (t : Bool) → r.begins x.path (known_to r s.entries x) ≡ t →
         r.begins x.path (known_to r (put s.entries (sent_out e)) x) ≡ t
@@ -257,53 +291,44 @@ module _ (r : Rules) (lawful : AreLawful r) (request : List (List ℕ)) where
         (λ y n. sym (take_lacks y)) q)) ∙ h
 
     take_fed : (q : List ℕ) → IsFed r s.entries q → IsFed r (put s.entries (sent_out e)) q
-    take_fed q fed = elim (cases_Bool (bytes_eq e.path q)) [
-      | inl t ↦
-          let same = (bytes_eq-Decides e.path q).0 t in
-          let P : List ℕ → Type 0 = λ y. entry_of (put s.entries (sent_out e)) y ≡ Some (sent_out e) in
-          let Q : List ℕ → Type 0 = λ y. entry_of s.entries y ≡ Some e in
-          let is : fed.0 ≡ e = let both : Some fed.0 ≡ Some e = sym fed.1 ∙ subst Q same take_entry in cc in (
-            sent_out e,
-            subst P same (entry_of-put_same s.entries (sent_out e) (entry_of-among s.entries e.path e take_entry)),
-            take_open,
-            λ x m none. fed.3 x (let R : Entry → Type 0 = λ y. IsAmong (operands r y.deps) x in subst R (sym is) m) (sym (take_lacks x) ∙ none),
-            take_begins e true (let R : Entry → Type 0 = λ y. r.begins y.path (known_to r s.entries y) ≡ true in
-                subst R is fed.4),
-          )
-      | inr f ↦ (
-        fed.0,
-        entry_of-put_other s.entries (sent_out e) q (λ same. both_ways _ f ((bytes_eq-Decides e.path q).1 same)) ∙ fed.1,
-        fed.2,
-        λ x m none. fed.3 x m (sym (take_lacks x) ∙ none),
-        take_begins fed.0 true fed.4,
+    take_fed q fed = elim (put-from s.entries (sent_out e) e of.at q fed.0 fed.1) [
+      | inl here ↦ (
+        sent_out e,
+        here.2,
+        of.open_yet,
+        λ x m none. of.fed x m (sym (take_lacks x) ∙ none),
+        take_begins e true (let R : Entry → Type 0 = λ y. r.begins y.path (known_to r s.entries y) ≡ true in
+            subst R here.0 fed.4),
       )
+      | inr other ↦
+          (fed.0, other.1, fed.2, λ x m none. fed.3 x m (sym (take_lacks x) ∙ none), take_begins fed.0 true fed.4)
     ]
 
-    pub taken-sound : IsSound r request (taken s (Some e) which)
+    pub taken-sound : IsSound r request (taken s (Some of.entry) which)
     taken-sound = record {
-      standing = sent-standing r lawful request s.entries sound.standing e take_entry take_open;
+      standing = sent-standing r lawful request s.entries sound.standing e of.at of.open_yet;
       requested = λ q m.
           let P : List (List ℕ) → Type 0 = λ xs. IsAmong xs q in
           subst P (sym (paths_of-put s.entries (sent_out e))) (sound.requested q m);
       queued = record {
         ready_fed = λ q m. take_fed q (sound.queued.ready_fed q (remove-from s.ready which q m));
-        out_fed = λ q x h out. elim (take_cases q x h) [
-          | inl new ↦ take_fed q (sound.queued.ready_fed q (IsAmong-same s.ready p q (sym take_path ∙ new.0) (place-among s.ready which p at)))
-          | inr old ↦ take_fed q (sound.queued.out_fed q x old out)
+        out_fed = λ q x h out. elim (put-cases s.entries (sent_out e) e of.at q x h) [
+          | inl new ↦ take_fed q (sound.queued.ready_fed q (IsAmong-same s.ready e.path q new.0 take_among))
+          | inr old ↦ take_fed q (sound.queued.out_fed q x old.1 out)
         ];
         ready_distinct = remove-distinct s.ready which sound.queued.ready_distinct;
-        apart = λ q x m h. elim (take_cases q x h) [
-          | inl new ↦ absurd (remove-gone s.ready which p sound.queued.ready_distinct at
-              (IsAmong-same (remove s.ready which) q p (sym new.0 ∙ take_path) m))
-          | inr old ↦ sound.queued.apart q x (remove-from s.ready which q m) old
+        apart = λ q x m h. elim (put-cases s.entries (sent_out e) e of.at q x h) [
+          | inl new ↦ absurd (remove-gone s.ready which e.path sound.queued.ready_distinct of.ready
+              (IsAmong-same (remove s.ready which) q e.path (sym new.0) m))
+          | inr old ↦ sound.queued.apart q x (remove-from s.ready which q m) old.1
         ];
       };
-      others_wait = λ q x h open' not_ready not_out. elim (take_cases q x h) [
+      others_wait = λ q x h open' not_ready not_out. elim (put-cases s.entries (sent_out e) e of.at q x h) [
         | inl new ↦ absurd (both_ways _ not_out (ap (λ (y : Entry). y.is_out) new.1))
         | inr old ↦
-            let waits = sound.others_wait q x old open'
-            (λ m. elim (remove-cases s.ready which p q at m) [
-              | inl same ↦ gone q x same h not_out
+            let waits = sound.others_wait q x old.1 open'
+            (λ m. elim (remove-cases s.ready which e.path q of.ready m) [
+              | inl same ↦ old.0 same
               | inr rest ↦ not_ready rest
             ]) not_out in
             elim waits [
@@ -312,32 +337,19 @@ module _ (r : Rules) (lawful : AreLawful r) (request : List (List ℕ)) where
             ]
       ];
     }
-      where
-        gone : (q : List ℕ) (x : Entry) → p ≡ q → entry_of (put s.entries (sent_out e)) q ≡ Some x → x.is_out ≡ false → ⊥
-        gone q x same h not_out =
-            let P : List ℕ → Type 0 = λ y. entry_of (put s.entries (sent_out e)) y ≡ Some (sent_out e) in
-            let there = subst P (take_path ∙ same) (entry_of-put_same s.entries (sent_out e) (entry_of-among s.entries e.path e take_entry)) in
-            let is : x ≡ sent_out e = let both : Some x ≡ Some (sent_out e) = sym h ∙ there in cc in
-            both_ways _ not_out (ap (λ (y : Entry). y.is_out) is)
 
-  module _ (phase : Phase) (s : State) (sound : IsSound r request s) (p : List ℕ) (e : Entry)
-      (at : entry_of s.entries p ≡ Some e)
+  module _ (phase : Phase) (s : State) (sound : IsSound r request s) (e : Entry)
+      (at : entry_of s.entries e.path ≡ Some e)
       (out_is_fed : (e.outcome ≡ None) ×
       ((q : List ℕ) → IsAmong (operands r e.deps) q → outcomes_of s.entries q ≡ None → ⊥))
-      (not_queued : IsAmong s.ready p → ⊥) (how : r.begins e.path (known_to r s.entries e) ≡ is_script phase) where
-    out_path : e.path ≡ p
-    out_path = entry_of-path s.entries p e at
-
-    out_entry : entry_of s.entries e.path ≡ Some e
-    out_entry = let P : List ℕ → Type 0 = λ x. entry_of s.entries x ≡ Some e in subst P (sym out_path) at
-
+      (not_queued : IsAmong s.ready e.path → ⊥) (how : r.begins e.path (known_to r s.entries e) ≡ is_script phase) where
     new_targets : (q : List ℕ) → IsAmong (operands r (advanced r s.entries e).deps) q → r.is_source q ≡ false
     new_targets q m = operand-target r lawful (advanced r s.entries e).deps q m
 
     new_needed : (q : List ℕ) → IsAmong (operands r (advanced r s.entries e).deps) q → IsNeeded r request q
     new_needed q m =
         IsNeeded-asked r lawful request e.path q (decided_count s.entries)
-        (sound.standing.needed e.path (entry_of-among s.entries e.path e out_entry))
+        (sound.standing.needed e.path (entry_of-among s.entries e.path e at))
         ((lawful.each e.path).grows q (only (operands r e.deps) (outcomes_of s.entries)) (outcome_at r (decided_count s.entries))
         (only-Extends r (operands r e.deps) (outcomes_of s.entries) (outcome_at r (decided_count s.entries))
         (outcomes_of-deep r lawful request s.entries sound.standing)) m)
@@ -391,14 +403,14 @@ module _ (r : Rules) (lawful : AreLawful r) (request : List (List ℕ)) where
     moved_standing : AreStanding r request moved
     moved_standing =
         let P : List Entry → Type 0 = AreStanding r request in
-        subst P (sym moved_is) (put-standing r lawful request wider wider_standing phase e
-        (wider_entry e.path e out_entry) out_is_fed.0 wider_fed entered_all wider_how)
+        subst P (sym moved_is) (moved-standing r lawful request wider wider_standing phase e
+        (wider_entry e.path e at) out_is_fed.0 wider_fed entered_all wider_how)
 
     moved_more : Extends r (outcomes_of wider) (outcomes_of moved)
     moved_more =
         let P : List Entry → Type 0 = λ es. Extends r (outcomes_of wider) (outcomes_of es) in
-        subst P (sym moved_is) (put-outcomes r lawful request wider wider_standing phase e
-        (wider_entry e.path e out_entry) out_is_fed.0 wider_fed entered_all wider_how)
+        subst P (sym moved_is) (moved-outcomes r lawful request wider wider_standing phase e
+        (wider_entry e.path e at) out_is_fed.0 wider_fed entered_all wider_how)
 
     moved_fed : (q : List ℕ) → (e.path ≡ q → ⊥) → IsFed r s.entries q → IsFed r moved q
     unfolding moved
@@ -423,24 +435,15 @@ module _ (r : Rules) (lawful : AreLawful r) (request : List (List ℕ)) where
 
     moved_cases : (q : List ℕ) (x : Entry) → entry_of moved q ≡ Some x → x.is_out ≡ true → (e.path ≡ q → ⊥) × (entry_of s.entries q ≡ Some x)
     unfolding moved wider
-    moved_cases q x h is_out = elim (cases_Bool (bytes_eq e.path q)) [
-      | inl t ↦
-          let same = (bytes_eq-Decides e.path q).0 t in
-          let P : List ℕ → Type 0 = λ y. entry_of moved y ≡ Some (moved_on phase e (advanced r s.entries e)) in
-          let there =
-          subst P same (entry_of-put_same wider (moved_on phase e (advanced r s.entries e))
-          (entry_of-among wider e.path e (wider_entry e.path e out_entry))) in
-          let is : x ≡ moved_on phase e (advanced r s.entries e) =
-          let both : Some x ≡ Some (moved_on phase e (advanced r s.entries e)) = sym h ∙ there in cc in
-          absurd (both_ways _ (ap (λ (y : Entry). y.is_out) is) is_out)
-      | inr f ↦
-          let other : e.path ≡ q → ⊥ = λ same. both_ways _ f ((bytes_eq-Decides e.path q).1 same) in
-          let old = sym (entry_of-put_other wider (moved_on phase e (advanced r s.entries e)) q other) ∙ h in
-          elim (entry_of-entered_cases r s.entries (operands r (advanced r s.entries e).deps) q x old) [
-            | inl older ↦ (other, older)
-            | inr new ↦ absurd (both_ways _ (ap (λ (y : Entry). y.is_out) new.1 ∙ new-inside r q) is_out)
+    moved_cases q x h is_out =
+        elim (replaced-cases r s.entries (operands r (advanced r s.entries e).deps)
+        (moved_on phase e (advanced r s.entries e)) e at q x h) [
+          | inl here ↦ absurd (both_ways _ (ap (λ (y : Entry). y.is_out) here.1) is_out)
+          | inr other ↦ elim other.1 [
+            | inl old ↦ (other.0, old)
+            | inr new ↦ absurd (both_ways _ (ap (λ (y : Entry). y.is_out) new ∙ new-inside r q) is_out)
           ]
-    ]
+        ]
 
     pub handed_in-sound : IsSound r request (handed_in r phase s (Some e))
     unfolding moved wider
@@ -462,7 +465,7 @@ module _ (r : Rules) (lawful : AreLawful r) (request : List (List ℕ)) where
         })
       where
         not_ready : (q : List ℕ) → IsAmong s.ready q → e.path ≡ q → ⊥
-        not_ready q m same = not_queued (IsAmong-same s.ready q p (sym same ∙ out_path) m)
+        not_ready q m same = not_queued (IsAmong-same s.ready q e.path (sym same) m)
 
   -- of an entry that is out, or whose check can go on
   pub out-parts : (s : State) → IsSound r request s → (p : List ℕ) (e : Entry) → entry_of s.entries p ≡ Some e →
@@ -491,22 +494,58 @@ module _ (r : Rules) (lawful : AreLawful r) (request : List (List ℕ)) where
         not-true _ both.1,
       )
 
+  -- an entry whose check or script goes on
+  pub record GoesOn (s : State) (event : Event) (phase : Phase) : Type 0 where
+    pub entry : Entry
+    pub at : entry_of s.entries entry.path ≡ Some entry
+    pub parts : (entry.outcome ≡ None) ×
+        ((q : List ℕ) → IsAmong (operands r entry.deps) q → outcomes_of s.entries q ≡ None → ⊥)
+    pub apart : IsAmong s.ready entry.path → ⊥
+    pub begins : r.begins entry.path (known_to r s.entries entry) ≡ is_script phase
+    pub out : entry.is_out ≡ is_script phase
+    pub is : happens r s event ≡ handed_in r phase s (Some entry)
+
+  going : (s : State) (event : Event) (phase : Phase) (p : List ℕ) (e : Entry) → entry_of s.entries p ≡ Some e →
+      ((e.outcome ≡ None) × ((q : List ℕ) → IsAmong (operands r e.deps) q → outcomes_of s.entries q ≡ None → ⊥)) ×
+      (IsAmong s.ready p → ⊥) × (r.begins e.path (known_to r s.entries e) ≡ is_script phase) →
+      e.is_out ≡ is_script phase → happens r s event ≡ handed_in r phase s (entry_of s.entries p) → GoesOn s event phase
+  going s event phase p e at parts out is =
+      let P : List ℕ → Type 0 = λ x. (entry_of s.entries x ≡ Some e) × (IsAmong s.ready x → ⊥) in
+      let own = subst P (sym (entry_of-path s.entries p e at)) (at, parts.1) in
+      record {
+        entry = e;
+        at = own.0;
+        parts = parts.0;
+        apart = own.1;
+        begins = parts.2;
+        out = out;
+        is = is ∙ ap (handed_in r phase s) at;
+      }
+
+  pub hand-of : (s : State) → IsSound r request s → (target : List ℕ) (turn : ℕ) → IsOutAt s target turn →
+      GoesOn s (Hand_in target turn) Script
+  hand-of s sound target turn out = going s (Hand_in target turn) Script target out.entry out.at
+      (out-parts s sound target out.entry out.at out.is_out) out.is_out refl
+
+  pub look-of : (s : State) (target : List ℕ) → IsDueAt r s target → GoesOn s (Look target) Check
+  look-of s target due = going s (Look target) Check target due.entry due.at (due-parts s target due.entry due.at due.due)
+      (is_able_to_go_on-parts r s due.entry (and_parts (is_able_to_go_on r s due.entry) _ due.due).0).2 refl
+
+  going-sound : (s : State) → IsSound r request s → (event : Event) (phase : Phase) → GoesOn s event phase →
+      IsSound r request (happens r s event)
+  going-sound s sound event phase of =
+      let P : State → Type 0 = IsSound r request in
+      subst P (sym of.is) (handed_in-sound phase s sound of.entry of.at of.parts of.apart of.begins)
+
   pub happens-sound : (s : State) (event : Event) → IsSound r request s → IsOpen r s event →
       IsSound r request (happens r s event)
   happens-sound s (Take which) sound open' =
-      let at = slice_get-below s.ready which open' in
-      let fed = sound.queued.ready_fed at.0 (place-among s.ready which at.0 at.1) in
-      let P : Option (List ℕ) → Type 0 = λ x. IsSound r request (taken s (option_and_then (entry_of s.entries) x) which) in
-      let Q : Option Entry → Type 0 = λ x. IsSound r request (taken s x which) in
-      subst P (sym at.1) (subst Q (sym fed.1) (taken-sound s sound which at.0 fed.0 at.1 fed.1))
+      let of = take-of s sound which open' in
+      let P : State → Type 0 = IsSound r request in
+      subst P (sym of.is) (taken-sound s sound which of)
   happens-sound s (Hand_in target turn) sound open' =
-      let P : Option Entry → Type 0 = λ x. IsSound r request (handed_in r Script s x) in
-      let parts = out-parts s sound target open'.entry open'.at open'.is_out in
-      subst P (sym open'.at) (handed_in-sound Script s sound target open'.entry open'.at parts.0 parts.1 parts.2)
-  happens-sound s (Look target) sound open' =
-      let P : Option Entry → Type 0 = λ x. IsSound r request (handed_in r Check s x) in
-      let parts = due-parts s target open'.entry open'.at open'.due in
-      subst P (sym open'.at) (handed_in-sound Check s sound target open'.entry open'.at parts.0 parts.1 parts.2)
+      going-sound s sound (Hand_in target turn) Script (hand-of s sound target turn open')
+  happens-sound s (Look target) sound open' = going-sound s sound (Look target) Check (look-of s target open')
 
   pub run-sound : (s : State) (events : List Event) → IsSound r request s → AllOpen r s events → IsSound r request (run r events s)
   run-sound s [] sound open' = sound

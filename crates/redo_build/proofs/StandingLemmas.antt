@@ -18,8 +18,8 @@ use Rattle.redo_build.specs.inside.Standing.{decided_count, IsNeeded, IsDecidedA
 use Rattle.redo_build.specs.inside.Standing.{is_script}
 use Rattle.redo_build.proofs.DepthLemmas.{deeper, ended_stays, outcome_at-step, asked_at-grows, reached-once}
 use Rattle.redo_build.proofs.DepthLemmas.{reached-more}
-use Rattle.redo_build.proofs.SeenLemmas.{entry_of-path, entry_of-among, outcomes_of-entry, outcomes_of-at, paths_of-put}
-use Rattle.redo_build.proofs.SeenLemmas.{entry_of-put_same, entry_of-put_other, decided_count-put, decided_count-some}
+use Rattle.redo_build.proofs.SeenLemmas.{entry_of-path, outcomes_of-entry, outcomes_of-at, paths_of-put}
+use Rattle.redo_build.proofs.SeenLemmas.{put-new, put-from, put-cases, entry_of-put_other, decided_count-put, decided_count-some}
 use Rattle.redo_build.proofs.SeenLemmas.{decided_count-entered, new_entry-path, paths_of-entered, entry_of-entered_old}
 use Rattle.redo_build.proofs.SeenLemmas.{entry_of-entered_cases, phase_cases}
 use Rattle.redo_build.proofs.TurnLemmas.{only-Extends, CameTo-more, deps_at_turn-more, CameTo-upto, begins_at-more}
@@ -191,39 +191,57 @@ module _ (r : Rules) (lawful : AreLawful r) (request : List (List ℕ)) where
         ];
       }
 
+    -- an entry that isn't decided is replaced: every answer stays
+    module _ (new old : Entry) (at : entry_of es new.path ≡ Some old) (open' : old.outcome ≡ None) where
+      pub put-outcomes : Extends r (outcomes_of es) (outcomes_of (put es new))
+      put-outcomes q o s h =
+          let found = outcomes_of-entry es q o h in
+          elim (put-from es new old at q found.0 found.1) [
+            | inl here ↦ absurd (
+                let bad : None ≡ Some o = sym open' ∙ ap (λ (x : Entry). x.outcome) (sym here.0) ∙ found.2 in cc)
+            | inr other ↦ ap outcome_of other.1 ∙ found.2
+          ]
+
+      put-count : decided_count es ≤ decided_count (put es new)
+      put-count = omega (arith, decided_count-put es new old at open')
+
+      -- the others stand as they did
+      pub put-standing : ((q : List ℕ) → IsAmong (operands r new.deps) q → IsAmong (paths_of es) q) →
+          ((o : Outcome) → new.outcome ≡ Some o → IsDecidedAs r (put es new) new o) →
+          (new.outcome ≡ None → IsUnderWay r (put es new) new) → AreStanding r request (put es new)
+      put-standing asks is-decided is-under_way =
+          let paths = paths_of-put es new in
+          let There : List ℕ → List (List ℕ) → Type 0 = λ p xs. IsAmong xs p in
+          record {
+            distinct = let P : List (List ℕ) → Type 0 = AreDistinct in subst P (sym paths) standing.distinct;
+            targets = λ p m. standing.targets p (subst (There p) paths m);
+            needed = λ p m. standing.needed p (subst (There p) paths m);
+            closed = λ p q x h m. subst (There q) (sym paths) (elim (put-cases es new old at p x h) [
+              | inl here ↦ asks q (let P : Entry → Type 0 = λ y. IsAmong (operands r y.deps) q in subst P here.1 m)
+              | inr other ↦ standing.closed p q x other.1 m
+            ]);
+            decided = λ p x o h done. elim (put-cases es new old at p x h) [
+              | inl here ↦
+                  let P : Entry → Type 0 = λ y. IsDecidedAs r (put es new) y o in
+                  subst P (sym here.1) (is-decided o (sym (ap (λ (y : Entry). y.outcome) here.1) ∙ done))
+              | inr other ↦
+                  IsDecidedAs-more es (put es new) x o put-count put-outcomes (standing.decided p x o other.1 done)
+            ];
+            under_way = λ p x h still. elim (put-cases es new old at p x h) [
+              | inl here ↦
+                  let P : Entry → Type 0 = λ y. IsUnderWay r (put es new) y in
+                  subst P (sym here.1) (is-under_way (sym (ap (λ (y : Entry). y.outcome) here.1) ∙ still))
+              | inr other ↦ IsUnderWay-more es (put es new) x put-outcomes (standing.under_way p x other.1 still)
+            ];
+          }
+
     -- advancing one entry that has all that it asked for
     module _ (phase : Phase) (e : Entry) (at : entry_of es e.path ≡ Some e) (open' : e.outcome ≡ None)
         (fed : (q : List ℕ) → IsAmong (operands r e.deps) q → outcomes_of es q ≡ None → ⊥)
         (entered' : (q : List ℕ) → IsAmong (operands r (advanced r es e).deps) q → IsAmong (paths_of es) q)
         (how : r.begins e.path (known_to r es e) ≡ is_script phase) where
-      pub put-outcomes : Extends r (outcomes_of es) (outcomes_of (put es (moved_on phase e (advanced r es e))))
-      put-outcomes q o s h =
-          let found = outcomes_of-entry es q o h in
-          let other : e.path ≡ q → ⊥ = λ same.
-          let P : List ℕ → Type 0 = λ x. entry_of es x ≡ Some e in
-          let here : Some e ≡ Some found.0 = sym (subst P same at) ∙ found.1 in
-          let entry : e ≡ found.0 = cc in
-          let none = sym open' ∙ ap (λ (x : Entry). x.outcome) entry ∙ found.2 in
-          cc in
-          ap outcome_of (entry_of-put_other es (moved_on phase e (advanced r es e)) q other) ∙ h
-
-      pub put-cases : (p : List ℕ) (x : Entry) → entry_of (put es (moved_on phase e (advanced r es e))) p ≡ Some x →
-          ((e.path ≡ p) × (x ≡ moved_on phase e (advanced r es e))) ⊎ (entry_of es p ≡ Some x)
-      put-cases p x h = elim (cases_Bool (bytes_eq e.path p)) [
-        | inl t ↦
-            let same = (bytes_eq-Decides e.path p).0 t in
-            let new = entry_of-put_same es (moved_on phase e (advanced r es e)) (entry_of-among es e.path e at) in
-            let P : List ℕ → Type 0 = λ y.
-            entry_of (put es (moved_on phase e (advanced r es e))) y ≡ Some (moved_on phase e (advanced r es e)) in
-            let there = subst P same new in
-            inl (same, (cc))
-        | inr f ↦
-            let other : e.path ≡ p → ⊥ = λ same. both_ways _ f ((bytes_eq-Decides e.path p).1 same) in
-            inr (sym (entry_of-put_other es (moved_on phase e (advanced r es e)) p other) ∙ h)
-      ]
-
-      put-count : decided_count es ≤ decided_count (put es (moved_on phase e (advanced r es e)))
-      put-count = omega (arith, decided_count-put es (moved_on phase e (advanced r es e)) e at open')
+      pub moved-outcomes : Extends r (outcomes_of es) (outcomes_of (put es (moved_on phase e (advanced r es e))))
+      moved-outcomes = put-outcomes (moved_on phase e (advanced r es e)) e at open'
 
       moved-decided : (o : Outcome) → (advanced r es e).outcome ≡ Some o →
           IsDecidedAs r (put es (moved_on phase e (advanced r es e))) (moved_on phase e (advanced r es e)) o
@@ -234,7 +252,7 @@ module _ (r : Rules) (lawful : AreLawful r) (request : List (List ℕ)) where
           let known : Ask = outcomes_of (put es (moved_on phase e (advanced r es e))) in
           let later : advanced r es e ≡ r.progress e.path known =
           ended_stays r lawful e.path (only (operands r e.deps) (outcomes_of es)) known o
-          (only-Extends r (operands r e.deps) (outcomes_of es) known put-outcomes) done in
+          (only-Extends r (operands r e.deps) (outcomes_of es) known moved-outcomes) done in
           let P : Option Outcome → Type 0 = λ y. advanced r es e ≡ record { outcome = y; deps = (advanced r es e).deps } in
           let parts : advanced r es e ≡ record { outcome = Some o; deps = (advanced r es e).deps } = subst P done refl in (
             decided_count es,
@@ -337,9 +355,9 @@ module _ (r : Rules) (lawful : AreLawful r) (request : List (List ℕ)) where
           ] in
           let more =
           CameTo-more r lawful e.path (outcomes_of es) (outcomes_of (put es (moved_on phase e (advanced r es e))))
-          put-outcomes (suc (rounds e)) came in
+          moved-outcomes (suc (rounds e)) came in
           let deps' = deps ∙ deps_at_turn-more r lawful e.path (outcomes_of es)
-          (outcomes_of (put es (moved_on phase e (advanced r es e)))) put-outcomes (suc (rounds e)) came in
+          (outcomes_of (put es (moved_on phase e (advanced r es e)))) moved-outcomes (suc (rounds e)) came in
           let P : ℕ → Type 0 = λ k. CameTo r e.path (outcomes_of (put es (moved_on phase e (advanced r es e)))) k in
           let Q : ℕ → Type 0 = λ k. (advanced r es e).deps ≡ deps_at_turn r e.path
           (outcomes_of (put es (moved_on phase e (advanced r es e)))) k in
@@ -347,7 +365,7 @@ module _ (r : Rules) (lawful : AreLawful r) (request : List (List ℕ)) where
           begins_at r e.path (outcomes_of es) k ≡ begins_at r e.path
           (outcomes_of (put es (moved_on phase e (advanced r es e)))) k =
           λ k h. begins_at-more r lawful e.path (outcomes_of es)
-          (outcomes_of (put es (moved_on phase e (advanced r es e)))) put-outcomes k
+          (outcomes_of (put es (moved_on phase e (advanced r es e)))) moved-outcomes k
           (CameTo-upto r lawful e.path (outcomes_of es) k (suc (rounds e)) (omega arith) came)
           (λ q m. came.answered k q (omega arith) m) in
           record {
@@ -358,97 +376,24 @@ module _ (r : Rules) (lawful : AreLawful r) (request : List (List ℕ)) where
                 moved-begun stopped later in sym (stays (moved_on phase e (advanced r es e)).looks was.0) ∙ was.1;
           }
 
-      pub put-standing : AreStanding r request (put es (moved_on phase e (advanced r es e)))
-      put-standing =
-          let paths = paths_of-put es (moved_on phase e (advanced r es e)) in
-          let There : List ℕ → List (List ℕ) → Type 0 = λ p xs. IsAmong xs p in
-          record {
-            distinct = let P : List (List ℕ) → Type 0 = AreDistinct in subst P (sym paths) standing.distinct;
-            targets = λ p m. standing.targets p (subst (There p) paths m);
-            needed = λ p m. standing.needed p (subst (There p) paths m);
-            closed = λ p q x h m. subst (There q) (sym paths) (elim (put-cases p x h) [
-              | inl new ↦
-                  entered' q (let P : Entry → Type 0 = λ y. IsAmong (operands r y.deps) q in subst P new.1 m)
-              | inr old ↦ standing.closed p q x old m
-            ]);
-            decided = λ p x o h done. elim (put-cases p x h) [
-              | inl new ↦
-                  let P : Entry → Type 0 = λ y. IsDecidedAs r (put es (moved_on phase e (advanced r es e))) y o in
-                  subst P (sym new.1) (moved-decided o (sym (ap (λ (y : Entry). y.outcome) new.1) ∙ done))
-              | inr old ↦
-                  IsDecidedAs-more es (put es (moved_on phase e (advanced r es e))) x o put-count put-outcomes
-                  (standing.decided p x o old done)
-            ];
-            under_way = λ p x h still. elim (put-cases p x h) [
-              | inl new ↦
-                  let P : Entry → Type 0 = λ y. IsUnderWay r (put es (moved_on phase e (advanced r es e))) y in
-                  subst P (sym new.1) (moved-under_way (sym (ap (λ (y : Entry). y.outcome) new.1) ∙ still))
-              | inr old ↦
-                  IsUnderWay-more es (put es (moved_on phase e (advanced r es e))) x put-outcomes
-                  (standing.under_way p x old still)
-            ];
-          }
+      pub moved-standing : AreStanding r request (put es (moved_on phase e (advanced r es e)))
+      moved-standing = put-standing (moved_on phase e (advanced r es e)) e at open' entered' moved-decided moved-under_way
 
     -- sending out the job of an entry changes nothing of what is known
     module _ (e : Entry) (at : entry_of es e.path ≡ Some e) (open' : e.outcome ≡ None) where
-      pub sent-cases : (p : List ℕ) (x : Entry) → entry_of (put es (sent_out e)) p ≡ Some x →
-          ((e.path ≡ p) × (x ≡ sent_out e)) ⊎ (entry_of es p ≡ Some x)
-      sent-cases p x h = elim (cases_Bool (bytes_eq e.path p)) [
-        | inl t ↦
-            let same = (bytes_eq-Decides e.path p).0 t in
-            let new = entry_of-put_same es (sent_out e) (entry_of-among es e.path e at) in
-            let P : List ℕ → Type 0 = λ y. entry_of (put es (sent_out e)) y ≡ Some (sent_out e) in
-            let there = subst P same new in
-            inl (same, (cc))
-        | inr f ↦
-            let other : e.path ≡ p → ⊥ = λ same. both_ways _ f ((bytes_eq-Decides e.path p).1 same) in
-            inr (sym (entry_of-put_other es (sent_out e) p other) ∙ h)
-      ]
-
       pub sent-outcomes : (q : List ℕ) → outcomes_of (put es (sent_out e)) q ≡ outcomes_of es q
       sent-outcomes q = elim (cases_Bool (bytes_eq e.path q)) [
         | inl t ↦
-            let same = (bytes_eq-Decides e.path q).0 t in
-            let new = entry_of-put_same es (sent_out e) (entry_of-among es e.path e at) in
             let P : List ℕ → Type 0 = λ y. outcomes_of (put es (sent_out e)) y ≡ outcomes_of es y in
-            subst P same (ap outcome_of new ∙ sym (ap outcome_of at))
+            subst P ((bytes_eq-Decides e.path q).0 t) (ap outcome_of (put-new es (sent_out e) e at) ∙ sym (ap outcome_of at))
         | inr f ↦
             ap outcome_of (entry_of-put_other es (sent_out e) q (λ same. both_ways _ f ((bytes_eq-Decides e.path q).1 same)))
       ]
 
-      sent-Extends : Extends r (outcomes_of es) (outcomes_of (put es (sent_out e)))
-      sent-Extends q o s h = sent-outcomes q ∙ h
-
-      sent-count : decided_count es ≤ decided_count (put es (sent_out e))
-      sent-count = omega (arith, decided_count-put es (sent_out e) e at open')
-
-      sent-under_way : IsUnderWay r (put es (sent_out e)) e → IsUnderWay r (put es (sent_out e)) (sent_out e)
-      sent-under_way h = record { came = h.came; is = h.is; in_check = h.in_check; begun = h.begun }
-
       pub sent-standing : AreStanding r request (put es (sent_out e))
       sent-standing =
-          let paths = paths_of-put es (sent_out e) in
-          let There : List ℕ → List (List ℕ) → Type 0 = λ p xs. IsAmong xs p in
-          record {
-            distinct = let P : List (List ℕ) → Type 0 = AreDistinct in subst P (sym paths) standing.distinct;
-            targets = λ p m. standing.targets p (subst (There p) paths m);
-            needed = λ p m. standing.needed p (subst (There p) paths m);
-            closed = λ p q x h m. subst (There q) (sym paths) (elim (sent-cases p x h) [
-              | inl new ↦ standing.closed e.path q e at (let P : Entry → Type 0 = λ y. IsAmong (operands r y.deps) q in subst P new.1 m)
-              | inr old ↦ standing.closed p q x old m
-            ]);
-            decided = λ p x o h done. elim (sent-cases p x h) [
-              | inl new ↦ absurd (no_some o (sym open' ∙ sym (ap (λ (y : Entry). y.outcome) new.1) ∙ done))
-              | inr old ↦ IsDecidedAs-more es (put es (sent_out e)) x o sent-count sent-Extends (standing.decided p x o old done)
-            ];
-            under_way = λ p x h still. elim (sent-cases p x h) [
-              | inl new ↦
-                  let P : Entry → Type 0 = λ y. IsUnderWay r (put es (sent_out e)) y in
-                  subst P (sym new.1) (sent-under_way
-                  (IsUnderWay-more es (put es (sent_out e)) e sent-Extends (standing.under_way e.path e at open')))
-              | inr old ↦ IsUnderWay-more es (put es (sent_out e)) x sent-Extends (standing.under_way p x old still)
-            ];
-          }
-        where
-          no_some : (v : Outcome) → None ≡ Some v → ⊥
-          no_some v h = cc
+          let way = IsUnderWay-more es (put es (sent_out e)) e (put-outcomes (sent_out e) e at open')
+          (standing.under_way e.path e at open') in
+          put-standing (sent_out e) e at open' (λ q m. standing.closed e.path q e at m)
+          (λ o done. absurd (let bad : None ≡ Some o = sym open' ∙ done in cc))
+          (λ none. record { came = way.came; is = way.is; in_check = way.in_check; begun = way.begun })

@@ -1,29 +1,24 @@
 -- Which scripts were begun, and that an event begins none but what it takes at turn 0.
-use Rattle.std.proofs.Common.{◌≡◌, ℕ, ◌<◌, ◌≤◌, true, false, ◌⊎◌, inl, inr, List, [], ◌∷◌, Option, Some, None}
-use Rattle.std.proofs.Common.{slice_get, option_and_then, refl, sym, ap, subst, ◌∙◌, arith, bytes_eq}
-use Rattle.std.proofs.lemmas.Bool.{cases_Bool, cases_lt, both_ways, and_parts}
-use Rattle.std.proofs.lemmas.Slice.Eq.{bytes_eq-Decides}
-use Rattle.redo_names.proofs.PathLemmas.{place-among}
+use Rattle.std.proofs.Common.{◌≡◌, ℕ, ◌<◌, ◌≤◌, true, false, ◌⊎◌, inl, inr, List, [], Some, None}
+use Rattle.std.proofs.Common.{refl, sym, ap, subst, ◌∙◌, arith}
+use Rattle.std.proofs.lemmas.Bool.{cases_Bool, cases_lt, both_ways}
 use Rattle.redo_record.specs.Progress.{Progress}
 use Rattle.redo_record.specs.declared.deps.Dep.{Dep}
 use Rattle.redo_record.specs.declared.outcome.Outcome.{Outcome}
 use Rattle.redo_build.specs.Rules.{Rules, AreLawful, operands, Ask, Extends}
 use Rattle.redo_build.specs.Outcomes.{outcome_at}
-use Rattle.redo_build.specs.Schedule.{Entry, State, entry_of, outcomes_of, new_entry, entered, put, sent_out, taken}
-use Rattle.redo_build.specs.Schedule.{advanced, moved_on, handed_in, happens, IsOpen, only, known_to, is_able_to_go_on}
-use Rattle.redo_build.specs.Schedule.{nothing_known, Phase}
+use Rattle.redo_build.specs.Schedule.{Entry, State, Event, Phase, entry_of, outcomes_of, new_entry, entered, put, sent_out}
+use Rattle.redo_build.specs.Schedule.{advanced, moved_on, happens, IsOpen, only, known_to, nothing_known}
 use Rattle.redo_build.specs.Schedule.Event.{Take, Hand_in, Look}
 use Rattle.redo_build.specs.Schedule.Phase.{Check, Script}
-use Rattle.redo_build.specs.Takes.{place_of, IsTaken}
+use Rattle.redo_build.specs.Takes.{IsTaken}
 use Rattle.redo_build.specs.inside.Standing.{AreStanding, decided_count, rounds}
 use Rattle.redo_build.proofs.DepthLemmas.{cases_Option, operand-target, deeper}
-use Rattle.redo_build.proofs.SeenLemmas.{entry_of-among, entry_of-put_same, entry_of-put_other, entry_of-entered_old}
-use Rattle.redo_build.proofs.SeenLemmas.{entry_of-entered_cases, decided_count-put, decided_count-entered}
-use Rattle.redo_build.proofs.QueueLemmas.{slice_get-below}
+use Rattle.redo_build.proofs.SeenLemmas.{entry_of-entered_old, decided_count-put, decided_count-entered, put-new}
+use Rattle.redo_build.proofs.SeenLemmas.{replaced-from, replaced-cases}
 use Rattle.redo_build.proofs.TurnLemmas.{only-Extends, begun-later}
 use Rattle.redo_build.proofs.StandingLemmas.{outcomes_of-deep}
-use Rattle.redo_build.proofs.SoundLemmas.{IsSound, out-parts, due-parts, is_able_to_go_on-parts}
-use Rattle.redo_build.proofs.OnceLemmas.{at_path}
+use Rattle.redo_build.proofs.SoundLemmas.{IsSound, IsTakeOf, GoesOn, take-of, hand-of, look-of, taken_by}
 
 -- the script of an entry was begun: its job is out, or it stopped before, or the target was decided by it
 abbrev pub IsStarted : Rules → List Entry → Entry → Type 0
@@ -118,64 +113,38 @@ module _ (r : Rules) (lawful : AreLawful r) where
           let moved = decided_count-put (entered r es more) new old there open' in
           omega (arith, wide, moved)
 
-      new-at : entry_of replaced new.path ≡ Some new
-      new-at = entry_of-put_same (entered r es more) new (entry_of-among (entered r es more) new.path old
-          (entry_of-entered_old r es more new.path old at))
-
       goes_on : (IsStarted r es old → IsStarted r replaced new) → (p : List ℕ) → IsStartedAt r es p →
           IsStartedAt r replaced p
-      goes_on how p h = elim (cases_Bool (bytes_eq new.path p)) [
-        | inl t ↦
-            let same = (bytes_eq-Decides new.path p).0 t in
-            let P : List ℕ → Type 0 = λ x. entry_of replaced x ≡ Some new in
-            let Q : List ℕ → Type 0 = λ x. entry_of es x ≡ Some old in
-            let is : h.0 ≡ old = let both : Some h.0 ≡ Some old = sym h.1 ∙ subst Q same at in cc in
-            let R : Entry → Type 0 = λ x. IsStarted r es x in
-            (new, subst P same new-at, how (subst R is h.2))
-        | inr f ↦ (
-          h.0,
-          entry_of-put_other (entered r es more) new p (λ same. both_ways _ f ((bytes_eq-Decides new.path p).1 same))
-              ∙ entry_of-entered_old r es more p h.0 h.1,
-          (same-started replaced count p h.0 h.1).0 h.2,
-        )
+      goes_on how p h = elim (replaced-from r es more new old at p h.0 h.1) [
+        | inl here ↦ let R : Entry → Type 0 = λ x. IsStarted r es x in (new, here.2, how (subst R here.0 h.2))
+        | inr other ↦ (h.0, other.1, (same-started replaced count p h.0 h.1).0 h.2)
       ]
 
       comes_from : (X : Type 0) → (IsStarted r replaced new → IsStarted r es old ⊎ X) → (p : List ℕ) →
           r.has_rule p ≡ true →
           IsStartedAt r replaced p → IsStartedAt r es p ⊎ ((new.path ≡ p) × X)
-      comes_from X how p ruled h = elim (cases_Bool (bytes_eq new.path p)) [
-        | inl t ↦
-            let same = (bytes_eq-Decides new.path p).0 t in
-            let P : List ℕ → Type 0 = λ x. entry_of replaced x ≡ Some new in
-            let is : h.0 ≡ new = let both : Some h.0 ≡ Some new = sym h.1 ∙ subst P same new-at in cc in
-            let R : Entry → Type 0 = λ x. IsStarted r replaced x in
-            let Q : List ℕ → Type 0 = λ x. entry_of es x ≡ Some old in
-            elim (how (subst R is h.2)) [
-              | inl before ↦ inl (old, subst Q same at, before)
-              | inr x ↦ inr (same, x)
-            ]
-        | inr f ↦
-            let other : new.path ≡ p → ⊥ = λ same. both_ways _ f ((bytes_eq-Decides new.path p).1 same) in
-            let there = sym (entry_of-put_other (entered r es more) new p other) ∙ h.1 in
-            elim (entry_of-entered_cases r es more p h.0 there) [
+      comes_from X how p ruled h =
+          let R : Entry → Type 0 = λ x. IsStarted r replaced x in
+          elim (replaced-cases r es more new old at p h.0 h.1) [
+            | inl here ↦
+                let Q : List ℕ → Type 0 = λ x. entry_of es x ≡ Some old in
+                elim (how (subst R here.1 h.2)) [
+                  | inl before ↦ inl (old, subst Q here.0 at, before)
+                  | inr x ↦ inr (here.0, x)
+                ]
+            | inr other ↦ elim other.1 [
               | inl before ↦ inl (h.0, before, (same-started replaced count p h.0 before).1 h.2)
-              | inr fresh ↦ absurd (
-                  let R : Entry → Type 0 = λ x. IsStarted r replaced x in
-                  new-started replaced p ruled (subst R fresh.1 h.2))
+              | inr fresh ↦ absurd (new-started replaced p ruled (subst R fresh h.2))
             ]
-      ]
+          ]
 
       keeps-ruled : AreRuled r es → AreRuled r replaced
-      keeps-ruled ruled p x h none = elim (cases_Bool (bytes_eq new.path p)) [
-        | inl t ↦
-            let P : List ℕ → Type 0 = λ y. r.has_rule y ≡ true in
-            subst P ((bytes_eq-Decides new.path p).0 t) (ruled new.path old at open')
-        | inr f ↦
-            let other : new.path ≡ p → ⊥ = λ same. both_ways _ f ((bytes_eq-Decides new.path p).1 same) in
-            elim (entry_of-entered_cases r es more p x (sym (entry_of-put_other (entered r es more) new p other) ∙ h)) [
-              | inl before ↦ ruled p x before none
-              | inr fresh ↦ new-ruled p (ap (λ (y : Entry). y.outcome) (sym fresh.1) ∙ none)
-            ]
+      keeps-ruled ruled p x h none = elim (replaced-cases r es more new old at p x h) [
+        | inl here ↦ let P : List ℕ → Type 0 = λ y. r.has_rule y ≡ true in subst P here.0 (ruled new.path old at open')
+        | inr other ↦ elim other.1 [
+          | inl before ↦ ruled p x before none
+          | inr fresh ↦ new-ruled p (ap (λ (y : Entry). y.outcome) (sym fresh) ∙ none)
+        ]
       ]
 
   module _ (request : List (List ℕ)) (s : State) (sound : IsSound r request s) where
@@ -196,207 +165,153 @@ module _ (r : Rules) (lawful : AreLawful r) where
         (outcomes_of-deep r lawful request s.entries sound.standing) q o t k)
 
     -- a take begins what is taken at turn 0
-    pub record IsTakeOf (which : ℕ) : Type 0 where
-      pub entry : Entry
-      pub at : entry_of s.entries entry.path ≡ Some entry
-      pub open_yet : entry.outcome ≡ None
-      pub entries : (happens r s (Take which)).entries ≡ put s.entries (sent_out entry)
-      pub place : place_of (option_and_then (entry_of s.entries) (slice_get s.ready which)) ≡
-          (entry.path, entry.turn) ∷ []
+    module _ (which : ℕ) (of : IsTakeOf r lawful request s which) (p : List ℕ) where
+      take-on : IsStartedAt r s.entries p ⊎ IsTaken (taken_by s (Take which)) p 0 →
+          IsStartedAt r (happens r s (Take which)).entries p
+      take-on h =
+          let S : State → Type 0 = λ t. IsStartedAt r t.entries p in
+          let M : List ((List ℕ) × ℕ) → Type 0 = λ xs. IsTaken xs p 0 in
+          let P : List ℕ → Type 0 = λ x. entry_of (put s.entries (sent_out of.entry)) x ≡ Some (sent_out of.entry) in
+          subst S (sym of.is) (elim h [
+            | inl before ↦ goes_on request s.entries sound.standing [] (sent_out of.entry) of.entry of.at of.open_yet
+                (λ _. inl refl) p before
+            | inr now ↦ elim (subst M of.place now) [
+              | inl here ↦ (sent_out of.entry, subst P here.0 (put-new s.entries (sent_out of.entry) of.entry of.at), inl refl)
+              | inr none ↦ absurd none
+            ]
+          ])
 
-    pub take-of : (which : ℕ) → IsOpen r s (Take which) → IsTakeOf which
-    take-of which open' =
-        let at = slice_get-below s.ready which open' in
-        let fed = sound.queued.ready_fed at.0 (place-among s.ready which at.0 at.1) in
-        let P : Option (List ℕ) → Type 0 = λ x.
-        (taken s (option_and_then (entry_of s.entries) x) which).entries ≡ put s.entries (sent_out fed.0) in
-        let Q : Option Entry → Type 0 = λ x. (taken s x which).entries ≡ put s.entries (sent_out fed.0) in
-        let A : Option (List ℕ) → Type 0 = λ x.
-        place_of (option_and_then (entry_of s.entries) x) ≡ (fed.0.path, fed.0.turn) ∷ [] in
-        let B : Option Entry → Type 0 = λ x. place_of x ≡ (fed.0.path, fed.0.turn) ∷ [] in
-        record {
-          entry = fed.0;
-          at = at_path s.entries at.0 fed.0 fed.1;
-          open_yet = fed.2;
-          entries = subst P (sym at.1) (subst Q (sym fed.1) refl);
-          place = subst A (sym at.1) (subst B (sym fed.1) refl);
-        }
+      take-from : r.has_rule p ≡ true → IsStartedAt r (happens r s (Take which)).entries p →
+          IsStartedAt r s.entries p ⊎ IsTaken (taken_by s (Take which)) p 0
+      take-from ruled h =
+          let X : Type 0 = of.entry.turn ≡ 0 in
+          let S : State → Type 0 = λ t. IsStartedAt r t.entries p in
+          let M : List ((List ℕ) × ℕ) → Type 0 = λ xs. IsTaken xs p 0 in
+          elim (comes_from request s.entries sound.standing [] (sent_out of.entry) of.entry of.at of.open_yet X
+          (λ _. elim (cases_lt 0 of.entry.turn) [
+            | inl later ↦ inl (inr (inl (later, of.open_yet)))
+            | inr now ↦ inr (omega arith)
+          ]) p ruled (subst S of.is h)) [
+            | inl before ↦ inl before
+            | inr now ↦ inr (subst M (sym of.place) (inl now))
+          ]
 
-    pub take-on : (which : ℕ) → IsOpen r s (Take which) → (p : List ℕ) → IsStartedAt r s.entries p →
-        IsStartedAt r (happens r s (Take which)).entries p
-    take-on which open' p h =
-        let of = take-of which open' in
-        subst (λ es. IsStartedAt r es p) (sym of.entries)
-        (goes_on request s.entries sound.standing [] (sent_out of.entry) of.entry of.at of.open_yet (λ _. inl refl) p h)
+    going-count : (event : Event) (phase : Phase) (of : GoesOn r lawful request s event phase) →
+        decided_count s.entries ≤ decided_count (after phase of.entry)
+    going-count event phase of =
+        count request s.entries sound.standing (asks of.entry) (moved phase of.entry) of.entry of.at of.parts.0
 
-    pub take-now : (which : ℕ) → IsOpen r s (Take which) → (p : List ℕ) →
-        IsTaken (place_of (option_and_then (entry_of s.entries) (slice_get s.ready which))) p 0 →
-        IsStartedAt r (happens r s (Take which)).entries p
-    take-now which open' p m =
-        let of = take-of which open' in
-        let M : List ((List ℕ) × ℕ) → Type 0 = λ xs. IsTaken xs p 0 in
+    -- a script that goes on was begun, and a check begins none
+    going-same : (event : Event) (phase : Phase) (of : GoesOn r lawful request s event phase) →
+        (IsStarted r s.entries of.entry → IsStarted r (after phase of.entry) (moved phase of.entry)) ×
+        (IsStarted r (after phase of.entry) (moved phase of.entry) → IsStarted r s.entries of.entry)
+    going-same event Script of = (λ _. started, λ _. inl of.out)
+      where
+        no_none : (v : Outcome) → Some v ≡ None → ⊥
+        no_none v h = cc
+
+        started : IsStarted r (after Script of.entry) (moved Script of.entry)
+        started = elim (cases_Option (advanced r s.entries of.entry).outcome) [
+          | inl none ↦ inr (inl (rw none (omega arith), none))
+          | inr some ↦ inr (inr (
+            (λ bad. no_none some.0 (sym some.1 ∙ bad)),
+            lawful.begins_stays of.entry.path (known_to r s.entries of.entry) _
+                (known-deep of.entry _ (going-count event Script of)) of.begins,
+          ))
+        ]
+    going-same event Check of = (λ h. absurd (not-before h), λ h. absurd (not-after h))
+      where
+        in-check : 0 < of.entry.turn → ⊥
+        in-check later =
+            let way = sound.standing.under_way of.entry.path of.entry of.at of.parts.0 in
+            let begun = begun-later r lawful of.entry.path (outcomes_of s.entries) of.entry.looks
+            (rounds of.entry) (omega arith) way.came (way.begun later) in
+            let P : List Dep → Type 0 = λ ds. r.begins of.entry.path (only (operands r ds) (outcomes_of s.entries)) ≡ true in
+            both_ways _ of.begins (subst P (sym way.is) begun)
+
+        not-before : IsStarted r s.entries of.entry → ⊥
+        not-before h = elim h [
+          | inl out ↦ both_ways _ of.out out
+          | inr rest ↦ elim rest [ inl later ↦ in-check later.0 | inr done ↦ done.0 of.parts.0 ]
+        ]
+
+        not-after : IsStarted r (after Check of.entry) (moved Check of.entry) → ⊥
+        not-after h = elim h [
+          | inl out ↦ absurd cc
+          | inr rest ↦ elim rest [
+            | inl later ↦ in-check later.0
+            | inr done ↦ elim (cases_Option (advanced r s.entries of.entry).outcome) [
+              | inl none ↦ done.0 none
+              | inr some ↦
+                  let same = begins-ended of.entry.path (known_to r s.entries of.entry) _ some.0
+                  (known-deep of.entry _ (going-count event Check of)) some.1 in
+                  both_ways _ (sym same ∙ of.begins) done.1
+            ]
+          ]
+        ]
+
+    module _ (event : Event) (phase : Phase) (of : GoesOn r lawful request s event phase) where
+      going-on : (p : List ℕ) → IsStartedAt r s.entries p → IsStartedAt r (happens r s event).entries p
+      going-on p h =
+          let S : State → Type 0 = λ t. IsStartedAt r t.entries p in
+          subst S (sym of.is) (goes_on request s.entries sound.standing (asks of.entry) (moved phase of.entry) of.entry of.at
+          of.parts.0 (going-same event phase of).0 p h)
+
+      going-from : (p : List ℕ) → r.has_rule p ≡ true → IsStartedAt r (happens r s event).entries p → IsStartedAt r s.entries p
+      going-from p ruled h =
+          let S : State → Type 0 = λ t. IsStartedAt r t.entries p in
+          elim (comes_from request s.entries sound.standing (asks of.entry) (moved phase of.entry) of.entry of.at
+          of.parts.0 ⊥ (λ started. inl ((going-same event phase of).1 started)) p ruled (subst S of.is h)) [
+            | inl before ↦ before
+            | inr bad ↦ absurd bad.1
+          ]
+
+      going-ruled : AreRuled r s.entries → AreRuled r (happens r s event).entries
+      going-ruled ruled =
+          let P : State → Type 0 = λ t. AreRuled r t.entries in
+          subst P (sym of.is) (keeps-ruled request s.entries sound.standing (asks of.entry) (moved phase of.entry) of.entry of.at
+          of.parts.0 ruled)
+
+    -- behind an event are begun what was begun before and what it takes at turn 0
+    pub event-on : (event : Event) → IsOpen r s event → (p : List ℕ) →
+        IsStartedAt r s.entries p ⊎ IsTaken (taken_by s event) p 0 → IsStartedAt r (happens r s event).entries p
+    event-on (Take which) open' p h = take-on which (take-of r lawful request s sound which open') p h
+    event-on (Hand_in target turn) open' p h = elim h [
+      | inl before ↦ going-on (Hand_in target turn) Script (hand-of r lawful request s sound target turn open') p before
+      | inr none ↦ absurd none
+    ]
+    event-on (Look target) open' p h = elim h [
+      | inl before ↦ going-on (Look target) Check (look-of r lawful request s target open') p before
+      | inr none ↦ absurd none
+    ]
+
+    pub event-from : (event : Event) → IsOpen r s event → (p : List ℕ) → r.has_rule p ≡ true →
+        IsStartedAt r (happens r s event).entries p → IsStartedAt r s.entries p ⊎ IsTaken (taken_by s event) p 0
+    event-from (Take which) open' p ruled h = take-from which (take-of r lawful request s sound which open') p ruled h
+    event-from (Hand_in target turn) open' p ruled h =
+        inl (going-from (Hand_in target turn) Script (hand-of r lawful request s sound target turn open') p ruled h)
+    event-from (Look target) open' p ruled h =
+        inl (going-from (Look target) Check (look-of r lawful request s target open') p ruled h)
+
+    -- and what isn't decided still has a rule, as has what is taken
+    pub event-ruled : (event : Event) → IsOpen r s event → AreRuled r s.entries → AreRuled r (happens r s event).entries
+    event-ruled (Take which) open' ruled =
+        let of = take-of r lawful request s sound which open' in
+        let P : State → Type 0 = λ t. AreRuled r t.entries in
+        subst P (sym of.is) (keeps-ruled request s.entries sound.standing [] (sent_out of.entry) of.entry of.at of.open_yet ruled)
+    event-ruled (Hand_in target turn) open' ruled =
+        going-ruled (Hand_in target turn) Script (hand-of r lawful request s sound target turn open') ruled
+    event-ruled (Look target) open' ruled =
+        going-ruled (Look target) Check (look-of r lawful request s target open') ruled
+
+    pub taken-ruled : (event : Event) → IsOpen r s event → AreRuled r s.entries → (p : List ℕ) (turn : ℕ) →
+        IsTaken (taken_by s event) p turn → r.has_rule p ≡ true
+    taken-ruled (Take which) open' ruled p turn m =
+        let of = take-of r lawful request s sound which open' in
+        let M : List ((List ℕ) × ℕ) → Type 0 = λ xs. IsTaken xs p turn in
+        let P : List ℕ → Type 0 = λ x. r.has_rule x ≡ true in
         elim (subst M of.place m) [
-          | inl here ↦
-              let P : List ℕ → Type 0 = λ x. entry_of (put s.entries (sent_out of.entry)) x ≡ Some (sent_out of.entry) in
-              subst (λ es. IsStartedAt r es p) (sym of.entries) (
-                sent_out of.entry,
-                subst P here.0 (new-at request s.entries sound.standing [] (sent_out of.entry)
-                    of.entry of.at of.open_yet),
-                inl refl,
-              )
+          | inl now ↦ subst P now.0 (ruled of.entry.path of.entry of.at of.open_yet)
           | inr none ↦ absurd none
         ]
-
-    pub take-from : (which : ℕ) → IsOpen r s (Take which) → (p : List ℕ) → r.has_rule p ≡ true →
-        IsStartedAt r (happens r s (Take which)).entries p →
-        IsStartedAt r s.entries p ⊎
-        IsTaken (place_of (option_and_then (entry_of s.entries) (slice_get s.ready which))) p 0
-    take-from which open' p ruled h =
-        let of = take-of which open' in
-        let X : Type 0 = of.entry.turn ≡ 0 in
-        let M : List ((List ℕ) × ℕ) → Type 0 = λ xs. IsTaken xs p 0 in
-        elim (comes_from request s.entries sound.standing [] (sent_out of.entry) of.entry of.at of.open_yet X
-        (λ _. elim (cases_lt 0 of.entry.turn) [
-          | inl later ↦ inl (inr (inl (later, of.open_yet)))
-          | inr now ↦ inr (omega arith)
-        ]) p ruled
-        (subst (λ es. IsStartedAt r es p) of.entries h)) [
-          | inl before ↦ inl before
-          | inr now ↦ inr (subst M (sym of.place) (inl now))
-        ]
-
-    pub take-ruled : (which : ℕ) → IsOpen r s (Take which) → AreRuled r s.entries →
-        AreRuled r (happens r s (Take which)).entries
-    take-ruled which open' ruled =
-        let of = take-of which open' in
-        let P : List Entry → Type 0 = AreRuled r in
-        subst P (sym of.entries) (keeps-ruled request s.entries sound.standing [] (sent_out of.entry) of.entry of.at
-        of.open_yet ruled)
-
-    -- what is handed in was begun
-    module _ (target : List ℕ) (turn : ℕ) (open' : IsOpen r s (Hand_in target turn)) where
-      hand-entries : (happens r s (Hand_in target turn)).entries ≡ after Script open'.entry
-      hand-entries =
-          let P : Option Entry → Type 0 = λ x. (handed_in r Script s x).entries ≡ after Script open'.entry in
-          subst P (sym open'.at) refl
-
-      hand-path : entry_of s.entries open'.entry.path ≡ Some open'.entry
-      hand-path = at_path s.entries target open'.entry open'.at
-
-      hand-open : open'.entry.outcome ≡ None
-      hand-open = (out-parts r lawful request s sound target open'.entry open'.at open'.is_out).0.0
-
-      hand-count : decided_count s.entries ≤ decided_count (after Script open'.entry)
-      hand-count = count request s.entries sound.standing (asks open'.entry)
-          (moved Script open'.entry) open'.entry hand-path hand-open
-
-      hand-started : IsStarted r (after Script open'.entry) (moved Script open'.entry)
-      hand-started = elim (cases_Option (advanced r s.entries open'.entry).outcome) [
-        | inl none ↦ inr (inl (rw none (omega arith), none))
-        | inr some ↦ inr (inr (
-          (λ bad. no_none some.0 (sym some.1 ∙ bad)),
-          lawful.begins_stays open'.entry.path (known_to r s.entries open'.entry) _
-              (known-deep open'.entry _ hand-count)
-              (out-parts r lawful request s sound target open'.entry open'.at open'.is_out).2,
-        ))
-      ]
-        where
-          no_none : (v : Outcome) → Some v ≡ None → ⊥
-          no_none v h = cc
-
-      pub hand-on : (p : List ℕ) → IsStartedAt r s.entries p →
-          IsStartedAt r (happens r s (Hand_in target turn)).entries p
-      hand-on p h = subst (λ es. IsStartedAt r es p) (sym hand-entries)
-          (goes_on request s.entries sound.standing (asks open'.entry)
-          (moved Script open'.entry) open'.entry hand-path hand-open (λ _. hand-started) p h)
-
-      pub hand-from : (p : List ℕ) → r.has_rule p ≡ true → IsStartedAt r (happens r s (Hand_in target turn)).entries p →
-          IsStartedAt r s.entries p
-      hand-from p ruled h =
-          elim (comes_from request s.entries sound.standing (asks open'.entry)
-          (moved Script open'.entry) open'.entry hand-path hand-open ⊥ (λ _. inl (inl open'.is_out)) p ruled
-          (subst (λ es. IsStartedAt r es p) hand-entries h)) [
-            | inl before ↦ before
-            | inr bad ↦ absurd bad.1
-          ]
-
-      pub hand-ruled : AreRuled r s.entries → AreRuled r (happens r s (Hand_in target turn)).entries
-      hand-ruled ruled =
-          let P : List Entry → Type 0 = AreRuled r in
-          subst P (sym hand-entries) (keeps-ruled request s.entries sound.standing (asks open'.entry)
-          (moved Script open'.entry) open'.entry hand-path hand-open ruled)
-
-    -- a look begins nothing
-    module _ (target : List ℕ) (open' : IsOpen r s (Look target)) where
-      look-entries : (happens r s (Look target)).entries ≡ after Check open'.entry
-      look-entries =
-          let P : Option Entry → Type 0 = λ x. (handed_in r Check s x).entries ≡ after Check open'.entry in
-          subst P (sym open'.at) refl
-
-      look-path : entry_of s.entries open'.entry.path ≡ Some open'.entry
-      look-path = at_path s.entries target open'.entry open'.at
-
-      look-open : open'.entry.outcome ≡ None
-      look-open = (due-parts r lawful request s target open'.entry open'.at open'.due).0.0
-
-      look-in : open'.entry.is_out ≡ false
-      look-in = (is_able_to_go_on-parts r s open'.entry (and_parts (is_able_to_go_on r s open'.entry) _ open'.due).0).2
-
-      look-turn : 0 < open'.entry.turn → ⊥
-      look-turn later =
-          let way = sound.standing.under_way target open'.entry open'.at look-open in
-          let begun = begun-later r lawful open'.entry.path (outcomes_of s.entries) open'.entry.looks
-          (rounds open'.entry) (omega arith) way.came (way.begun later) in
-          let P : List Dep → Type 0 = λ ds.
-          r.begins open'.entry.path (only (operands r ds) (outcomes_of s.entries)) ≡ true in
-          both_ways _ (due-parts r lawful request s target open'.entry open'.at open'.due).2
-          (subst P (sym way.is) begun)
-
-      look-count : decided_count s.entries ≤ decided_count (after Check open'.entry)
-      look-count = count request s.entries sound.standing (asks open'.entry)
-          (moved Check open'.entry) open'.entry look-path look-open
-
-      not-before : IsStarted r s.entries open'.entry → ⊥
-      not-before h = elim h [
-        | inl out ↦ both_ways _ look-in out
-        | inr rest ↦ elim rest [ inl later ↦ look-turn later.0 | inr done ↦ done.0 look-open ]
-      ]
-
-      not-after : IsStarted r (after Check open'.entry)
-          (moved Check open'.entry) → ⊥
-      not-after h = elim h [
-        | inl out ↦ absurd cc
-        | inr rest ↦ elim rest [
-          | inl later ↦
-              let same : (moved Check open'.entry).turn ≡ open'.entry.turn = refl in
-              (let above = later.0 in look-turn (omega (arith, same, above)))
-          | inr done ↦ elim (cases_Option (advanced r s.entries open'.entry).outcome) [
-            | inl none ↦ done.0 none
-            | inr some ↦
-                let same = begins-ended open'.entry.path (known_to r s.entries open'.entry) _ some.0
-                (known-deep open'.entry _ look-count) some.1 in
-                both_ways _ (sym same ∙ (due-parts r lawful request s target open'.entry open'.at open'.due).2) done.1
-          ]
-        ]
-      ]
-
-      pub look-on : (p : List ℕ) → IsStartedAt r s.entries p → IsStartedAt r (happens r s (Look target)).entries p
-      look-on p h = subst (λ es. IsStartedAt r es p) (sym look-entries)
-          (goes_on request s.entries sound.standing (asks open'.entry)
-          (moved Check open'.entry) open'.entry look-path look-open (λ b. absurd (not-before b)) p h)
-
-      pub look-from : (p : List ℕ) → r.has_rule p ≡ true → IsStartedAt r (happens r s (Look target)).entries p →
-          IsStartedAt r s.entries p
-      look-from p ruled h =
-          elim (comes_from request s.entries sound.standing (asks open'.entry)
-          (moved Check open'.entry) open'.entry look-path look-open ⊥ (λ b. absurd (not-after b)) p ruled
-          (subst (λ es. IsStartedAt r es p) look-entries h)) [
-            | inl before ↦ before
-            | inr bad ↦ absurd bad.1
-          ]
-
-      pub look-ruled : AreRuled r s.entries → AreRuled r (happens r s (Look target)).entries
-      look-ruled ruled =
-          let P : List Entry → Type 0 = AreRuled r in
-          subst P (sym look-entries) (keeps-ruled request s.entries sound.standing (asks open'.entry)
-          (moved Check open'.entry) open'.entry look-path look-open ruled)
+    taken-ruled _ open' ruled p turn m = absurd m

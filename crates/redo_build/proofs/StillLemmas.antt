@@ -1,28 +1,24 @@
 -- What looks leave as it is, and that a take makes nothing due.
-use Rattle.std.proofs.Common.{◌≡◌, ℕ, zero, suc, ◌<◌, ◌↔◌, true, false, inl, inr, List, [], ◌∷◌, ◌++◌, length, Option}
-use Rattle.std.proofs.Common.{Some, None, is_none, slice_get, option_and_then, remove, refl, sym, ap, subst, ◌∙◌}
-use Rattle.std.proofs.Common.{bytes_eq}
+use Rattle.std.proofs.Common.{◌≡◌, ℕ, zero, suc, ◌<◌, ◌↔◌, true, false, inl, inr, List, [], ◌∷◌, ◌++◌, length}
+use Rattle.std.proofs.Common.{Some, is_none, slice_get, option_and_then, remove, refl, sym, ap, subst, ◌∙◌}
 use Rattle.std.proofs.lemmas.Bool.{cases_Bool, both_ways, and_parts, and_from, not-true, not_from_false}
-use Rattle.std.proofs.lemmas.Slice.Eq.{bytes_eq-Decides}
-use Rattle.redo_names.proofs.PathLemmas.{among-told, place-among, told-among}
+use Rattle.redo_names.proofs.PathLemmas.{among-told, told-among}
 use Rattle.redo_record.specs.Paths.{is_among}
 use Rattle.redo_build.specs.Rules.{Rules, AreLawful, operands}
-use Rattle.redo_build.specs.Schedule.{Entry, State, Event, entry_of, outcomes_of, entered, put, sent_out}
+use Rattle.redo_build.specs.Schedule.{Entry, State, Event, entry_of, outcomes_of, put, sent_out}
 use Rattle.redo_build.specs.Schedule.{taken, advanced, moved_on, handed_in, happens, known_to, lacks_none}
-use Rattle.redo_build.specs.Schedule.{is_able_to_go_on, is_due, run, out_count, AllOpen, IsDueAt, IsOutAt}
+use Rattle.redo_build.specs.Schedule.{is_able_to_go_on, is_due, run, out_count, AllOpen, IsOutAt}
 use Rattle.redo_build.specs.Schedule.Event.{Take, Hand_in, Look}
 use Rattle.redo_build.specs.Schedule.Phase.{Check}
 use Rattle.redo_build.specs.Looking.{first_due, looked_once, looked, AreLooks, NoneDue}
 use Rattle.redo_build.specs.Takes.{place_of, takes}
 use Rattle.redo_build.proofs.DepthLemmas.{cases_Option}
-use Rattle.redo_build.proofs.SeenLemmas.{entry_of-path, entry_of-among, entry_of-put_same, entry_of-put_other}
-use Rattle.redo_build.proofs.SeenLemmas.{entry_of-entered_old, entry_of-entered_cases, new-inside}
-use Rattle.redo_build.proofs.QueueLemmas.{slice_get-below, remove-cases}
+use Rattle.redo_build.proofs.SeenLemmas.{entry_of-path, new-inside, put-cases, replaced-from, replaced-cases}
+use Rattle.redo_build.proofs.QueueLemmas.{remove-cases}
 use Rattle.redo_build.proofs.DueLemmas.{none-due, none-due-from}
-use Rattle.redo_build.proofs.StandingLemmas.{sent-cases, sent-outcomes}
-use Rattle.redo_build.proofs.SoundLemmas.{IsSound, happens-sound, is_able_to_go_on-parts, lacks_none-true}
-use Rattle.redo_build.proofs.SoundLemmas.{lacks_none-from, only-same}
-use Rattle.redo_build.proofs.OnceLemmas.{at_path}
+use Rattle.redo_build.proofs.StandingLemmas.{sent-outcomes}
+use Rattle.redo_build.proofs.SoundLemmas.{IsSound, IsTakeOf, GoesOn, take-of, look-of, happens-sound, is_able_to_go_on-parts}
+use Rattle.redo_build.proofs.SoundLemmas.{lacks_none-true, lacks_none-from, only-same}
 use Rattle.redo_build.proofs.CountLemmas.{look-out}
 use Rattle.redo_build.proofs.LookingLemmas.{first-open, first-look}
 
@@ -55,65 +51,35 @@ takes-looks r (Hand_in target turn ∷ events) looks s are =
 takes-looks r (Look target ∷ events) looks s are = takes-looks r events looks (happens r s (Look target)) are
 
 module _ (r : Rules) (lawful : AreLawful r) (request : List (List ℕ)) where
-  module _ (s : State) (sound : IsSound r request s) (target : List ℕ) (due : IsDueAt r s target) where
+  module _ (s : State) (target : List ℕ) (of : GoesOn r lawful request s (Look target) Check) where
     abbrev asks : List (List ℕ)
-    asks = operands r (advanced r s.entries due.entry).deps
+    asks = operands r (advanced r s.entries of.entry).deps
 
     abbrev next : Entry
-    next = moved_on Check due.entry (advanced r s.entries due.entry)
-
-    look-is : (happens r s (Look target)).entries ≡ put (entered r s.entries asks) next
-    look-is =
-        let P : Option Entry → Type 0 = λ x. (handed_in r Check s x).entries ≡ put (entered r s.entries asks) next in
-        subst P (sym due.at) refl
-
-    look-inside : due.entry.is_out ≡ false
-    look-inside = (is_able_to_go_on-parts r s due.entry (and_parts (is_able_to_go_on r s due.entry) _ due.due).0).2
-
-    look-own : entry_of s.entries due.entry.path ≡ Some due.entry
-    look-own = at_path s.entries target due.entry due.at
+    next = moved_on Check of.entry (advanced r s.entries of.entry)
 
     -- what is out stays so
     look-keeps : (q : List ℕ) (turn : ℕ) → IsOutAt s q turn → IsOutAt (happens r s (Look target)) q turn
-    look-keeps q turn out =
-        let other : due.entry.path ≡ q → ⊥ = λ same.
-        let P : List ℕ → Type 0 = λ x. entry_of s.entries x ≡ Some due.entry in
-        let is : due.entry ≡ out.entry =
-        (let both : Some due.entry ≡ Some out.entry = sym (subst P same look-own) ∙ out.at in cc) in
-        both_ways _ (sym (ap (λ (x : Entry). x.is_out) is) ∙ look-inside) out.is_out in
-        let there = entry_of-put_other (entered r s.entries asks) next q other
-        ∙ entry_of-entered_old r s.entries asks q out.entry out.at in
-        record {
-          entry = out.entry;
-          at = ap (λ es. entry_of es q) look-is ∙ there;
-          is_out = out.is_out;
-          at_turn = out.at_turn;
-        }
+    look-keeps q turn out = elim (replaced-from r s.entries asks next of.entry of.at q out.entry out.at) [
+      | inl here ↦ absurd (both_ways _ (ap (λ (x : Entry). x.is_out) here.0 ∙ of.out) out.is_out)
+      | inr other ↦ record {
+        entry = out.entry;
+        at = ap (λ (t : State). entry_of t.entries q) of.is ∙ other.1;
+        is_out = out.is_out;
+        at_turn = out.at_turn;
+      }
+    ]
 
     -- and nothing else goes out
     look-adds-none : (q : List ℕ) (turn : ℕ) → IsOutAt (happens r s (Look target)) q turn → IsOutAt s q turn
     look-adds-none q turn out =
-        let at : entry_of (put (entered r s.entries asks) next) q ≡ Some out.entry =
-        ap (λ es. entry_of es q) (sym look-is) ∙ out.at in
-        elim (cases_Bool (bytes_eq due.entry.path q)) [
-          | inl t ↦ absurd (
-              let same = (bytes_eq-Decides due.entry.path q).0 t in
-              let here = entry_of-put_same (entered r s.entries asks) next
-              (entry_of-among (entered r s.entries asks) due.entry.path due.entry
-              (entry_of-entered_old r s.entries asks due.entry.path due.entry look-own)) in
-              let P : List ℕ → Type 0 = λ x. entry_of (put (entered r s.entries asks) next) x ≡ Some next in
-              let is : next ≡ out.entry =
-              (let both : Some next ≡ Some out.entry = sym (subst P same here) ∙ at in cc) in
-              let inside : next.is_out ≡ false = refl in
-              both_ways _ (sym (ap (λ (x : Entry). x.is_out) is) ∙ inside) out.is_out)
-          | inr f ↦
-              let other : due.entry.path ≡ q → ⊥ = λ same. both_ways _ f ((bytes_eq-Decides due.entry.path q).1 same) in
-              let before = sym (entry_of-put_other (entered r s.entries asks) next q other) ∙ at in
-              elim (entry_of-entered_cases r s.entries asks q out.entry before) [
-                | inl old ↦ record { entry = out.entry; at = old; is_out = out.is_out; at_turn = out.at_turn }
-                | inr fresh ↦ absurd (
-                    both_ways _ (ap (λ (x : Entry). x.is_out) fresh.1 ∙ new-inside r q) out.is_out)
-              ]
+        elim (replaced-cases r s.entries asks next of.entry of.at q out.entry
+        (ap (λ (t : State). entry_of t.entries q) (sym of.is) ∙ out.at)) [
+          | inl here ↦ absurd (both_ways _ (ap (λ (x : Entry). x.is_out) here.1) out.is_out)
+          | inr other ↦ elim other.1 [
+            | inl old ↦ record { entry = out.entry; at = old; is_out = out.is_out; at_turn = out.at_turn }
+            | inr fresh ↦ absurd (both_ways _ (ap (λ (x : Entry). x.is_out) fresh ∙ new-inside r q) out.is_out)
+          ]
         ]
 
   -- so many looks leave what is out as it is
@@ -132,8 +98,8 @@ module _ (r : Rules) (lawful : AreLawful r) (request : List (List ℕ)) where
         (happens-sound r lawful request s (Look found.0.path) sound due) q turn in
         let P : State → Type 0 = λ t. IsOutAt s q turn ↔ IsOutAt (looked r n t) q turn in
         subst P (sym same) (
-          λ out. after.0 (look-keeps s sound found.0.path due q turn out),
-          λ out. look-adds-none s sound found.0.path due q turn (after.1 out),
+          λ out. after.0 (look-keeps s found.0.path (look-of r lawful request s found.0.path due) q turn out),
+          λ out. look-adds-none s found.0.path (look-of r lawful request s found.0.path due) q turn (after.1 out),
         )
   ]
 
@@ -154,70 +120,54 @@ module _ (r : Rules) (lawful : AreLawful r) (request : List (List ℕ)) where
   ]
 
   -- a take makes nothing due
-  module _ (s : State) (sound : IsSound r request s) (none : NoneDue r s) (which : ℕ) (p : List ℕ) (e : Entry)
-      (ready : slice_get s.ready which ≡ Some p) (at : entry_of s.entries p ≡ Some e) (open' : e.outcome ≡ None) where
-    abbrev then' : State
-    then' = taken s (Some e) which
+  module _ (s : State) (sound : IsSound r request s) (none : NoneDue r s) (which : ℕ) (of : IsTakeOf r lawful request s which)
+    where
+      abbrev e : Entry
+      e = of.entry
 
-    take-own : entry_of s.entries e.path ≡ Some e
-    take-own = at_path s.entries p e at
-
-    not-sent : (q : List ℕ) (x : Entry) → entry_of then'.entries q ≡ Some x → x.is_out ≡ false → x.path ≡ e.path → ⊥
-    not-sent q x there inside same =
-        let own : x.path ≡ q = entry_of-path then'.entries q x there in
-        let here = entry_of-put_same s.entries (sent_out e) (entry_of-among s.entries e.path e take-own) in
-        let P : List ℕ → Type 0 = λ y. entry_of (put s.entries (sent_out e)) y ≡ Some (sent_out e) in
-        let is : sent_out e ≡ x =
-        (let both : Some (sent_out e) ≡ Some x = sym (subst P (sym same ∙ own) here) ∙ there in cc) in
-        let out : (sent_out e).is_out ≡ true = refl in
-        both_ways _ inside (sym (ap (λ (y : Entry). y.is_out) is) ∙ out)
-
-    not-due : (q : List ℕ) (x : Entry) → entry_of then'.entries q ≡ Some x → is_due r then' x ≡ true → ⊥
-    not-due q x there due =
-        let both = and_parts (is_able_to_go_on r then' x) _ due in
-        let parts = is_able_to_go_on-parts r then' x both.0 in
-        let before : entry_of s.entries q ≡ Some x =
-        (elim (sent-cases r lawful request s.entries sound.standing e take-own open' q x there) [
-          | inl sent ↦ absurd (
-              let out : (sent_out e).is_out ≡ true = refl in
-              both_ways _ parts.2 (ap (λ (y : Entry). y.is_out) sent.1 ∙ out))
-          | inr old ↦ old
-        ]) in
-        let same = sent-outcomes r lawful request s.entries sound.standing e take-own open' in
-        let fed : lacks_none r s.entries x ≡ true = lacks_none-from r s.entries x (λ y m missing.
-        lacks_none-true r then'.entries x parts.1 y m (same y ∙ missing)) in
-        let waits : is_among s.ready x.path ≡ false = (elim (cases_Bool (is_among s.ready x.path)) [
-          | inl t ↦ absurd (elim (remove-cases s.ready which p x.path ready (among-told s.ready x.path t)) [
-            | inl taken' ↦ not-sent q x there parts.2 (sym taken' ∙ sym (entry_of-path s.entries p e at))
-            | inr left ↦ both_ways _ parts.3 (told-among (remove s.ready which) x.path left)
-          ])
-          | inr f ↦ f
-        ]) in
-        let known : r.begins x.path (known_to r then'.entries x) ≡ r.begins x.path (known_to r s.entries x) =
-        lawful.begins_local x.path (known_to r then'.entries x) (known_to r s.entries x) (λ y m.
-        only-same (operands r x.deps) (outcomes_of then'.entries) (outcomes_of s.entries)
-        (λ z k. same z) y) in
-        let begun : r.begins x.path (known_to r s.entries x) ≡ false = sym known ∙ not-true _ both.1 in
-        let open_yet : is_none x.outcome ≡ true = rw parts.0 refl in
-        let go : is_able_to_go_on r s x ≡ true =
-        and_from _ _ (and_from _ _ (and_from _ _ open_yet fed) (not_from_false _ parts.2)) (not_from_false _ waits) in
-        let was : is_due r s x ≡ true = and_from _ _ go (not_from_false _ begun) in
-        both_ways _ (none-due r s none q x before) was
+      not-due : (q : List ℕ) (x : Entry) → entry_of (put s.entries (sent_out e)) q ≡ Some x →
+          is_due r (taken s (Some of.entry) which) x ≡ true → ⊥
+      not-due q x there due =
+          let then' : State = taken s (Some e) which in
+          let both = and_parts (is_able_to_go_on r then' x) _ due in
+          let parts = is_able_to_go_on-parts r then' x both.0 in
+          let before : (e.path ≡ q → ⊥) × (entry_of s.entries q ≡ Some x) =
+          (elim (put-cases s.entries (sent_out e) e of.at q x there) [
+            | inl sent ↦ absurd (
+                let out : (sent_out e).is_out ≡ true = refl in
+                both_ways _ parts.2 (ap (λ (y : Entry). y.is_out) sent.1 ∙ out))
+            | inr old ↦ old
+          ]) in
+          let same = sent-outcomes r lawful request s.entries sound.standing e of.at of.open_yet in
+          let fed : lacks_none r s.entries x ≡ true = lacks_none-from r s.entries x (λ y m missing.
+          lacks_none-true r then'.entries x parts.1 y m (same y ∙ missing)) in
+          let waits : is_among s.ready x.path ≡ false = (elim (cases_Bool (is_among s.ready x.path)) [
+            | inl t ↦ absurd (elim (remove-cases s.ready which e.path x.path of.ready (among-told s.ready x.path t)) [
+              | inl taken' ↦ before.0 (taken' ∙ entry_of-path s.entries q x before.1)
+              | inr left ↦ both_ways _ parts.3 (told-among (remove s.ready which) x.path left)
+            ])
+            | inr f ↦ f
+          ]) in
+          let known : r.begins x.path (known_to r then'.entries x) ≡ r.begins x.path (known_to r s.entries x) =
+          lawful.begins_local x.path (known_to r then'.entries x) (known_to r s.entries x) (λ y m.
+          only-same (operands r x.deps) (outcomes_of then'.entries) (outcomes_of s.entries)
+          (λ z k. same z) y) in
+          let begun : r.begins x.path (known_to r s.entries x) ≡ false = sym known ∙ not-true _ both.1 in
+          let open_yet : is_none x.outcome ≡ true = rw parts.0 refl in
+          let go : is_able_to_go_on r s x ≡ true =
+          and_from _ _ (and_from _ _ (and_from _ _ open_yet fed) (not_from_false _ parts.2)) (not_from_false _ waits) in
+          let was : is_due r s x ≡ true = and_from _ _ go (not_from_false _ begun) in
+          both_ways _ (none-due r s none q x before.1) was
 
   pub take-none-due : (s : State) → IsSound r request s → NoneDue r s → (which : ℕ) → which < length s.ready →
       NoneDue r (happens r s (Take which))
   take-none-due s sound none which below =
-      let at = slice_get-below s.ready which below in
-      let fed = sound.queued.ready_fed at.0 (place-among s.ready which at.0 at.1) in
+      let of = take-of r lawful request s sound which below in
       let next = happens-sound r lawful request s (Take which) sound below in
-      let P : Option (List ℕ) → Type 0 = λ x. taken s (option_and_then (entry_of s.entries) x) which ≡ taken s
-      (Some fed.0) which in
-      let Q : Option Entry → Type 0 = λ x. taken s x which ≡ taken s (Some fed.0) which in
-      let is : happens r s (Take which) ≡ taken s (Some fed.0) which = subst P (sym at.1) (subst Q (sym fed.1) refl) in
       let S : State → Type 0 = IsSound r request in
       let N : State → Type 0 = NoneDue r in
-      subst N (sym is) (none-due-from r (taken s (Some fed.0) which) (subst S is next).standing.distinct
-      (λ q x there. elim (cases_Bool (is_due r (taken s (Some fed.0) which) x)) [
-        | inl due ↦ absurd (not-due s sound none which at.0 fed.0 at.1 fed.1 fed.2 q x there due)
+      subst N (sym of.is) (none-due-from r (taken s (Some of.entry) which) (subst S of.is next).standing.distinct
+      (λ q x there. elim (cases_Bool (is_due r (taken s (Some of.entry) which) x)) [
+        | inl due ↦ absurd (not-due s sound none which of q x there due)
         | inr f ↦ f
       ]))
