@@ -1,7 +1,7 @@
 -- What so many looks lead to: a state that is reached, with as many jobs out and no more takes left; and a state that
 -- shows the build leaves nothing to look at.
 use Rattle.std.proofs.Common.{◌≡◌, ℕ, zero, suc, ◌≤◌, inl, inr, List, length, Option, Some, None}
-use Rattle.std.proofs.Common.{true, sym, ap, subst, ◌∙◌, arith}
+use Rattle.std.proofs.Common.{true, sym, subst, ◌∙◌, arith}
 use Rattle.std.proofs.lemmas.Bool.{cases_Bool, and_parts}
 use Rattle.redo_record.specs.Paths.{IsAmong}
 use Rattle.redo_record.specs.Progress.{Progress}
@@ -9,18 +9,18 @@ use Rattle.redo_record.specs.declared.deps.Dep.{Dep}
 use Rattle.redo_build.specs.Rules.{Ask, Rules, AreLawful, operands}
 use Rattle.redo_build.specs.Outcomes.{outcome_at}
 use Rattle.redo_build.specs.Schedule.{Entry, State, Phase, advanced, entered, entry_of, handed_in, happens}
-use Rattle.redo_build.specs.Schedule.{is_able_to_go_on, is_due, moved_on}
+use Rattle.redo_build.specs.Schedule.{is_able_to_go_on, is_due, moved_on, IsDueAt}
 use Rattle.redo_build.specs.Schedule.Event.{Look}
 use Rattle.redo_build.specs.Schedule.Phase.{Check}
 use Rattle.redo_build.specs.Looking.{NoneDue, first_due, looked, looked_once}
 use Rattle.redo_build.specs.TakesLeft.{takes_left}
 use Rattle.redo_build.specs.Theorems.{ShowsBuild}
 use Rattle.redo_build.proofs.CountLemmas.{look-left}
-use Rattle.redo_build.proofs.DepthLemmas.{cases_Option, outcome_at-step, settled}
+use Rattle.redo_build.proofs.DepthLemmas.{outcome_at-step, settled}
 use Rattle.redo_build.proofs.DueLemmas.{none-due-from}
-use Rattle.redo_build.proofs.LookingLemmas.{first-look, first-open}
+use Rattle.redo_build.proofs.LookingLemmas.{looked-by}
 use Rattle.redo_build.proofs.SeenLemmas.{entered-longer, entry_of-among, length-put, outcomes_of-at}
-use Rattle.redo_build.proofs.SoundLemmas.{IsSound, happens-sound, is_able_to_go_on-parts, lacks_none-true}
+use Rattle.redo_build.proofs.SoundLemmas.{IsSound, is_able_to_go_on-parts, lacks_none-true}
 
 handed-longer : (r : Rules) (phase : Phase) (s : State) (o : Option Entry) →
     length s.entries ≤ length (handed_in r phase s o).entries
@@ -40,27 +40,21 @@ module _ (r : Rules) (lawful : AreLawful r) (request : List (List ℕ)) where
   -- looks leave no more to take
   pub looked-left : (limit looks : ℕ) (s : State) → IsSound r request s → length (looked r looks s).entries ≤ limit →
       takes_left limit (looked r looks s) ≤ takes_left limit s
-  looked-left limit zero s sound few = omega arith
-  looked-left limit (suc n) s sound few = elim (cases_Option (first_due r s)) [
-    | inl none ↦
-        let still : looked_once r s ≡ s = ap (handed_in r Check s) none in
-        let P : State → Type 0 = λ t. length (looked r n t).entries ≤ limit →
-        takes_left limit (looked r n t) ≤ takes_left limit s in
-        subst P (sym still) (looked-left limit n s sound) few
-    | inr due ↦
-        let path : List ℕ = due.0.path in
-        let open' = first-open r lawful request s sound due.0 due.1 in
-        let same = first-look r lawful request s sound due.0 due.1 in
-        let next : State = happens r s (Look path) in
-        let P : State → Type 0 = λ t. length (looked r n t).entries ≤ limit →
-        takes_left limit (looked r n t) ≤ takes_left limit s in
-        let after : P next = λ within.
-        let inside : length next.entries ≤ limit = omega (arith, within, looked-longer r n next) in
-        let less = look-left r lawful request s sound path limit open' inside in
-        let rest = looked-left limit n next (happens-sound r lawful request s (Look path) sound open') within in
-        omega (arith, less, rest) in
-        subst P (sym same) after few
-  ]
+  looked-left limit looks s sound = (looked-by r lawful request
+      (λ x y. (length x.entries ≤ length y.entries) × (length y.entries ≤ limit → takes_left limit y ≤ takes_left limit x))
+      (λ x. (omega arith, λ few. omega arith)) step looks s sound).1
+    where
+      step : (x y : State) (target : List ℕ) → IsSound r request x → IsDueAt r x target →
+          (length (happens r x (Look target)).entries ≤ length y.entries) ×
+          (length y.entries ≤ limit → takes_left limit y ≤ takes_left limit (happens r x (Look target))) →
+          (length x.entries ≤ length y.entries) × (length y.entries ≤ limit → takes_left limit y ≤ takes_left limit x)
+      step x y target sound' due rest = (
+        omega (arith, rest.0, handed-longer r Check x (entry_of x.entries target)),
+        λ few.
+            let less = look-left r lawful request x sound' target limit due (omega (arith, rest.0, few)) in
+            let after = rest.1 few in
+            omega (arith, less, after),
+      )
 
   -- what shows the build leaves nothing to look at: what isn't decided there lacks an answer for good
   pub shown-none_due : (limit : ℕ) (s : State) → IsSound r request s → ShowsBuild r request limit s → NoneDue r s

@@ -3,7 +3,7 @@ use Rattle.std.proofs.Common.{◌≡◌, ℕ, zero, suc, ◌<◌, ◌≤◌, ◌
 use Rattle.std.proofs.Common.{refl, sym, ap, subst, ◌∙◌, arith, Some}
 use Rattle.std.proofs.lemmas.Bool.{cases_lt, and_right}
 use Rattle.redo_build.specs.Rules.{Rules, AreLawful}
-use Rattle.redo_build.specs.Schedule.{Entry, State, happens, handed_in, is_able_to_go_on, is_due, known_to, run}
+use Rattle.redo_build.specs.Schedule.{Entry, State, happens, handed_in, is_able_to_go_on, is_due, known_to}
 use Rattle.redo_build.specs.Schedule.{IsDueAt}
 use Rattle.redo_build.specs.Schedule.Event.{Look}
 use Rattle.redo_build.specs.Schedule.Phase.{Check}
@@ -88,24 +88,29 @@ module _ (r : Rules) (lawful : AreLawful r) (request : List (List ℕ)) where
   pub looks-settle : (limit : ℕ) (s : State) → IsSound r request s → length s.entries ≤ limit → Settles r limit s
   looks-settle limit s sound few = settles (suc (takes_left limit s)) limit s sound few (omega arith)
 
-  -- so many looks are open ones
-  pub looks-lead : (looks : ℕ) (s : State) → IsSound r request s → IsLedOn r s (looked r looks s)
-  looks-lead zero s sound = record { looks = []; are_looks = tt; all_open = tt; is = refl }
-  looks-lead (suc n) s sound = elim (cases_Option (first_due r s)) [
+  -- what holds at once, and of each look behind which it holds, holds of so many looks
+  pub looked-by : (P : State → State → Type 0) → ((s : State) → P s s) →
+      ((s t : State) (target : List ℕ) → IsSound r request s → IsDueAt r s target → P (happens r s (Look target)) t → P s t) →
+      (looks : ℕ) (s : State) → IsSound r request s → P s (looked r looks s)
+  looked-by P still next zero s sound = still s
+  looked-by P still next (suc n) s sound = elim (cases_Option (first_due r s)) [
     | inl none ↦
-        let still : looked_once r s ≡ s = ap (handed_in r Check s) none in
-        let P : State → Type 0 = λ t. IsLedOn r s (looked r n t) in
-        subst P (sym still) (looks-lead n s sound)
+        let same : looked_once r s ≡ s = ap (handed_in r Check s) none in
+        subst (λ t. P s (looked r n t)) (sym same) (looked-by P still next n s sound)
     | inr due ↦
         let open' = first-open s sound due.0 due.1 in
-        let same = first-look s sound due.0 due.1 in
-        let rest = looks-lead n (happens r s (Look due.0.path))
-        (happens-sound r lawful request s (Look due.0.path) sound open') in
-        let P : State → Type 0 = λ t. looked r n t ≡ run r rest.looks (happens r s (Look due.0.path)) in
-        record {
-          looks = Look due.0.path ∷ rest.looks;
-          are_looks = rest.are_looks;
-          all_open = (open', rest.all_open);
-          is = subst P (sym same) rest.is;
-        }
+        let after = happens r s (Look due.0.path) in
+        let rest = looked-by P still next n after (happens-sound r lawful request s (Look due.0.path) sound open') in
+        subst (λ t. P s (looked r n t)) (sym (first-look s sound due.0 due.1))
+        (next s (looked r n after) due.0.path sound open' rest)
   ]
+
+  -- so many looks are open ones
+  pub looks-lead : (looks : ℕ) (s : State) → IsSound r request s → IsLedOn r s (looked r looks s)
+  looks-lead = looked-by (IsLedOn r) (λ s. record { looks = []; are_looks = tt; all_open = tt; is = refl })
+      (λ s t target sound open' rest. record {
+        looks = Look target ∷ rest.looks;
+        are_looks = rest.are_looks;
+        all_open = (open', rest.all_open);
+        is = rest.is;
+      })

@@ -1,18 +1,17 @@
 -- What looks leave as it is, and that a take makes nothing due.
-use Rattle.std.proofs.Common.{◌≡◌, ℕ, zero, suc, ◌<◌, ◌↔◌, true, false, inl, inr, List, [], ◌∷◌, ◌++◌, length}
+use Rattle.std.proofs.Common.{◌≡◌, ℕ, ◌<◌, ◌↔◌, true, false, inl, inr, List, [], ◌∷◌, ◌++◌, length}
 use Rattle.std.proofs.Common.{Some, is_none, slice_get, option_and_then, remove, refl, sym, ap, subst, ◌∙◌}
 use Rattle.std.proofs.lemmas.Bool.{cases_Bool, both_ways, and_parts, and_from, not-true, not_from_false}
 use Rattle.redo_names.proofs.PathLemmas.{among-told, told-among}
 use Rattle.redo_record.specs.Paths.{is_among}
 use Rattle.redo_build.specs.Rules.{Rules, AreLawful, operands}
 use Rattle.redo_build.specs.Schedule.{Entry, State, Event, entry_of, outcomes_of, put, sent_out}
-use Rattle.redo_build.specs.Schedule.{taken, advanced, moved_on, handed_in, happens, known_to, lacks_none}
+use Rattle.redo_build.specs.Schedule.{taken, advanced, moved_on, happens, known_to, lacks_none}
 use Rattle.redo_build.specs.Schedule.{is_able_to_go_on, is_due, run, out_count, AllOpen, IsOutAt}
 use Rattle.redo_build.specs.Schedule.Event.{Take, Hand_in, Look}
 use Rattle.redo_build.specs.Schedule.Phase.{Check}
-use Rattle.redo_build.specs.Looking.{first_due, looked_once, looked, AreLooks, NoneDue}
+use Rattle.redo_build.specs.Looking.{looked, AreLooks, NoneDue}
 use Rattle.redo_build.specs.Takes.{place_of, takes}
-use Rattle.redo_build.proofs.DepthLemmas.{cases_Option}
 use Rattle.redo_build.proofs.SeenLemmas.{entry_of-path, new-inside, put-cases, replaced-from, replaced-cases}
 use Rattle.redo_build.proofs.QueueLemmas.{remove-cases}
 use Rattle.redo_build.proofs.DueLemmas.{none-due, none-due-from}
@@ -20,7 +19,7 @@ use Rattle.redo_build.proofs.StandingLemmas.{sent-outcomes}
 use Rattle.redo_build.proofs.SoundLemmas.{IsSound, IsTakeOf, GoesOn, take-of, look-of, happens-sound, is_able_to_go_on-parts}
 use Rattle.redo_build.proofs.SoundLemmas.{lacks_none-true, lacks_none-from, only-same}
 use Rattle.redo_build.proofs.CountLemmas.{look-out}
-use Rattle.redo_build.proofs.LookingLemmas.{first-open, first-look}
+use Rattle.redo_build.proofs.LookingLemmas.{looked-by}
 
 -- a run goes on where another ended
 pub run-behind : (r : Rules) (events more : List Event) (s : State) → run r (events ++ more) s ≡ run r more
@@ -85,39 +84,15 @@ module _ (r : Rules) (lawful : AreLawful r) (request : List (List ℕ)) where
   -- so many looks leave what is out as it is
   pub looked-out : (looks : ℕ) (s : State) → IsSound r request s → (q : List ℕ) (turn : ℕ) →
       IsOutAt s q turn ↔ IsOutAt (looked r looks s) q turn
-  looked-out zero s sound q turn = (λ out. out, λ out. out)
-  looked-out (suc n) s sound q turn = elim (cases_Option (first_due r s)) [
-    | inl none ↦
-        let still : looked_once r s ≡ s = ap (handed_in r Check s) none in
-        let P : State → Type 0 = λ t. IsOutAt s q turn ↔ IsOutAt (looked r n t) q turn in
-        subst P (sym still) (looked-out n s sound q turn)
-    | inr found ↦
-        let due = first-open r lawful request s sound found.0 found.1 in
-        let same = first-look r lawful request s sound found.0 found.1 in
-        let after = looked-out n (happens r s (Look found.0.path))
-        (happens-sound r lawful request s (Look found.0.path) sound due) q turn in
-        let P : State → Type 0 = λ t. IsOutAt s q turn ↔ IsOutAt (looked r n t) q turn in
-        subst P (sym same) (
-          λ out. after.0 (look-keeps s found.0.path (look-of r lawful request s found.0.path due) q turn out),
-          λ out. look-adds-none s found.0.path (look-of r lawful request s found.0.path due) q turn (after.1 out),
-        )
-  ]
+  looked-out looks s sound q turn =
+      looked-by r lawful request (λ x y. IsOutAt x q turn ↔ IsOutAt y q turn) (λ x. (λ out. out, λ out. out))
+      (λ x y target sound' due rest.
+      let of = look-of r lawful request x target due in
+      (λ out. rest.0 (look-keeps x target of q turn out), λ out. look-adds-none x target of q turn (rest.1 out))) looks s sound
 
   pub looked-count : (looks : ℕ) (s : State) → IsSound r request s → out_count (looked r looks s) ≡ out_count s
-  looked-count zero s sound = refl
-  looked-count (suc n) s sound = elim (cases_Option (first_due r s)) [
-    | inl none ↦
-        let still : looked_once r s ≡ s = ap (handed_in r Check s) none in
-        let P : State → Type 0 = λ t. out_count (looked r n t) ≡ out_count s in
-        subst P (sym still) (looked-count n s sound)
-    | inr found ↦
-        let due = first-open r lawful request s sound found.0 found.1 in
-        let same = first-look r lawful request s sound found.0 found.1 in
-        let next = happens-sound r lawful request s (Look found.0.path) sound due in
-        let P : State → Type 0 = λ t. out_count (looked r n t) ≡ out_count s in
-        subst P (sym same) (looked-count n (happens r s (Look found.0.path)) next
-        ∙ look-out r lawful request s sound found.0.path due)
-  ]
+  looked-count = looked-by r lawful request (λ x y. out_count y ≡ out_count x) (λ x. refl)
+      (λ x y target sound due rest. rest ∙ look-out r lawful request x sound target due)
 
   -- a take makes nothing due
   module _ (s : State) (sound : IsSound r request s) (none : NoneDue r s) (which : ℕ) (of : IsTakeOf r lawful request s which)

@@ -29,20 +29,25 @@ pub Extends-trans' : (r : Rules) (a b c : Ask) → Extends r a b → Extends r b
 Extends-trans' r a b c h k q o s e = k q o s (h q o s e)
 
 module _ (r : Rules) (lawful : AreLawful r) where
-  -- a script that has all answers to what it asked for goes on alike with more answers
+  -- with all answers to what these ask for, more answers tell alike of it
+  only-alike : (ds : List Dep) (a b : Ask) → Extends r a b → ((q : List ℕ) → IsAmong (operands r ds) q → a q ≡ None → ⊥) →
+      (q : List ℕ) → only (operands r ds) a q ≡ only (operands r ds) b q
+  only-alike ds a b more all q = elim (cases_Bool (is_among (operands r ds) q)) [
+    | inl t ↦ rw t (
+        let among = among-told (operands r ds) q t in
+        elim (cases_Option (a q)) [
+          | inl none ↦ absurd (all q among none)
+          | inr some ↦ some.1 ∙ sym (more q some.0 (operand-target r lawful ds q among) some.1)
+        ])
+    | inr f ↦ rw f refl
+  ]
+
+  -- so a script goes on alike
   pub progress-more : (p : List ℕ) (ds : List Dep) (a b : Ask) → Extends r a b →
       ((q : List ℕ) → IsAmong (operands r ds) q → a q ≡ None → ⊥) →
       r.progress p (only (operands r ds) a) ≡ r.progress p (only (operands r ds) b)
-  progress-more p ds a b more all = (lawful.each p).local (only (operands r ds) a) (only (operands r ds) b) (λ q m.
-      elim (cases_Bool (is_among (operands r ds) q)) [
-        | inl t ↦ rw t (
-            let among = among-told (operands r ds) q t in
-            elim (cases_Option (a q)) [
-              | inl none ↦ absurd (all q among none)
-              | inr some ↦ some.1 ∙ sym (more q some.0 (operand-target r lawful ds q among) some.1)
-            ])
-        | inr f ↦ rw f refl
-      ])
+  progress-more p ds a b more all =
+      (lawful.each p).local (only (operands r ds) a) (only (operands r ds) b) (λ q m. only-alike ds a b more all q)
 
   pub CameTo-before : (p : List ℕ) (a : Ask) (k : ℕ) → CameTo r p a (suc k) → CameTo r p a k
   CameTo-before p a k h = record {
@@ -75,20 +80,12 @@ module _ (r : Rules) (lawful : AreLawful r) where
     stopped = λ i below. came.stopped i (omega arith);
   }
 
-  -- with all answers to what it asked for, whether it is begun stays too
+  -- and whether it is begun stays too
   pub begins-more : (p : List ℕ) (ds : List Dep) (a b : Ask) → Extends r a b →
       ((q : List ℕ) → IsAmong (operands r ds) q → a q ≡ None → ⊥) →
       r.begins p (only (operands r ds) a) ≡ r.begins p (only (operands r ds) b)
-  begins-more p ds a b more all = lawful.begins_local p (only (operands r ds) a) (only (operands r ds) b) (λ q m.
-      elim (cases_Bool (is_among (operands r ds) q)) [
-        | inl t ↦ rw t (
-            let among = among-told (operands r ds) q t in
-            elim (cases_Option (a q)) [
-              | inl none ↦ absurd (all q among none)
-              | inr some ↦ some.1 ∙ sym (more q some.0 (operand-target r lawful ds q among) some.1)
-            ])
-        | inr f ↦ rw f refl
-      ])
+  begins-more p ds a b more all =
+      lawful.begins_local p (only (operands r ds) a) (only (operands r ds) b) (λ q m. only-alike ds a b more all q)
 
   pub begins_at-more : (p : List ℕ) (a b : Ask) → Extends r a b → (turn : ℕ) → CameTo r p a turn →
       ((q : List ℕ) → IsAmong (operands r (deps_at_turn r p a turn)) q → a q ≡ None → ⊥) →
@@ -99,34 +96,25 @@ module _ (r : Rules) (lawful : AreLawful r) where
       (only (operands r ds) b) in
       subst P (deps_at_turn-more p a b more turn came) here
 
+  -- who asks for more knows more
+  asks-more : (ds es : List Dep) (a : Ask) → ((q : List ℕ) → IsAmong (operands r ds) q → IsAmong (operands r es) q) →
+      Extends r (only (operands r ds) a) (only (operands r es) a)
+  asks-more ds es a wider x o s h = elim (cases_Bool (is_among (operands r ds) x)) [
+    | inl t ↦ only-among (operands r es) a x (wider x (among-told (operands r ds) x t)) ∙ only-some (operands r ds) a x o h
+    | inr f ↦ absurd (let now = rw f at h in cc)
+  ]
+
   -- what a script asked for before it still asks for at its next turn
   pub asked-more : (p : List ℕ) (a : Ask) (turn : ℕ) → CameTo r p a turn → (q : List ℕ) →
       IsAmong (operands r (deps_at_turn r p a turn)) q → IsAmong (operands r (deps_at_turn r p a (suc turn))) q
   asked-more p a zero came q m = absurd m
   asked-more p a (suc k) came q m =
       (lawful.each p).grows q (only (operands r (deps_at_turn r p a k)) a) (only (operands r (deps_at_turn r p a (suc k))) a)
-      (known-more p a k (asked-more p a k (CameTo-before p a k came))) m
-    where
-      known-more : (p : List ℕ) (a : Ask) (k : ℕ) → ((q : List ℕ) → IsAmong (operands r (deps_at_turn r p a k)) q →
-          IsAmong (operands r (deps_at_turn r p a (suc k))) q) →
-          Extends r (only (operands r (deps_at_turn r p a k)) a) (only (operands r (deps_at_turn r p a (suc k))) a)
-      known-more p a k wider x o s h = elim (cases_Bool (is_among (operands r (deps_at_turn r p a k)) x)) [
-        | inl t ↦
-            let there = wider x (among-told (operands r (deps_at_turn r p a k)) x t) in
-            only-among (operands r (deps_at_turn r p a (suc k))) a x there
-            ∙ only-some (operands r (deps_at_turn r p a k)) a x o h
-        | inr f ↦ absurd (let now = rw f at h in cc)
-      ]
+      (asks-more (deps_at_turn r p a k) (deps_at_turn r p a (suc k)) a (asked-more p a k (CameTo-before p a k came))) m
 
   pub turn-more : (p : List ℕ) (a : Ask) (k : ℕ) → CameTo r p a k →
       Extends r (only (operands r (deps_at_turn r p a k)) a) (only (operands r (deps_at_turn r p a (suc k))) a)
-  turn-more p a k came x o s h = elim (cases_Bool (is_among (operands r (deps_at_turn r p a k)) x)) [
-    | inl t ↦
-        let there = asked-more p a k came x (among-told (operands r (deps_at_turn r p a k)) x t) in
-        only-among (operands r (deps_at_turn r p a (suc k))) a x there ∙ only-some (operands r (deps_at_turn r p a k)) a
-        x o h
-    | inr f ↦ absurd (let now = rw f at h in cc)
-  ]
+  turn-more p a k came = asks-more (deps_at_turn r p a k) (deps_at_turn r p a (suc k)) a (asked-more p a k came)
 
   -- what is begun stays begun at later turns
   pub begun-later : (p : List ℕ) (a : Ask) (j k : ℕ) → j ≤ k → CameTo r p a k → begins_at r p a j ≡ true →
