@@ -20,19 +20,9 @@ use Rattle.redo_table.proofs.TargetLemmas.{get-same, get-other, cases_eq, set-ca
 use Rattle.redo_table.proofs.TargetLemmas.{push-cases, push-before, stages-push, waiting-is}
 use Rattle.redo_table.specs.Schedule.{EachLacks}
 
--- one target changes, and what is to be looked at again
-pub record IsChanged (targets : List Target) (pending pending' : List ℕ) (at : ℕ) (old new : Target) : Type 0 where
-  pub there : slice_get targets at ≡ Some old
-  pub stays : is_decided_target old ≡ true → is_decided_target new ≡ true
-  pub awaited : (w : waits.Waiting) → new.stage ≡ stages.Waiting w → IsAwaited (slice_set targets at new) w
-  pub own : (w : waits.Waiting) → new.stage ≡ stages.Waiting w → (0 < times at pending') ⊎ IsWatched (slice_set targets at new) at w.on.items
-  pub others : (k : ℕ) (target : Target) (w : waits.Waiting) → (at ≡ k → ⊥) → slice_get targets k ≡ Some target → target.stage ≡ stages.Waiting w →
-      0 < times k pending → (0 < times k pending') ⊎ IsWatched (slice_set targets at new) k w.on.items
-  pub watchers : (k : ℕ) → 0 < times k old.watchers.items → is_decided_target old ≡ false →
-      ((0 < times k new.watchers.items) × (is_decided_target new ≡ false)) ⊎ (0 < times k pending')
-
-module _ (targets : List Target) (pending pending' : List ℕ) (at : ℕ) (old new : Target) (kept : AreWaiters targets pending)
-    (changed : IsChanged targets pending pending' at old new) where
+-- one target is another, and is decided still if it was
+module _ (targets : List Target) (at : ℕ) (old new : Target) (there : slice_get targets at ≡ Some old)
+    (stays : is_decided_target old ≡ true → is_decided_target new ≡ true) where
   abbrev targets' : List Target
   targets' = slice_set targets at new
 
@@ -41,10 +31,10 @@ module _ (targets : List Target) (pending pending' : List ℕ) (at : ℕ) (old n
   decided-still n h = elim (cases_eq at n) [
     | inl same ↦
         let here : slice_get (stages_of targets) at ≡ Some Decided = subst (λ j. slice_get (stages_of targets) j ≡ Some Decided) (sym same) h in
-        let both : Some (view_of old.stage) ≡ Some Decided = sym (stage-there targets at old changed.there) ∙ here in
+        let both : Some (view_of old.stage) ≡ Some Decided = sym (stage-there targets at old there) ∙ here in
         let was : view_of old.stage ≡ Decided = cc in
-        let now = decided-is (view_of new.stage) (changed.stays (ap is_decided was)) in
-        let done : slice_get (stages_of targets') at ≡ Some Decided = stage-there targets' at new (get-same targets at old new changed.there) ∙ ap Some now in
+        let now = decided-is (view_of new.stage) (stays (ap is_decided was)) in
+        let done : slice_get (stages_of targets') at ≡ Some Decided = stage-there targets' at new (get-same targets at old new there) ∙ ap Some now in
         subst (λ j. slice_get (stages_of targets') j ≡ Some Decided) same done
     | inr n' ↦ let e = ap (λ ss. slice_get ss n) (stages-set targets at new) in
         e ∙ get-other (stages_of targets) at n (view_of new.stage) n' ∙ h
@@ -56,49 +46,67 @@ module _ (targets : List Target) (pending pending' : List ℕ) (at : ℕ) (old n
     known = λ i n lt g. decided-still n (before.known i n lt g);
   }
 
-  watched-still : (k : ℕ) (target : Target) (w : waits.Waiting) → (at ≡ k → ⊥) → slice_get targets k ≡ Some target → target.stage ≡ stages.Waiting w →
-      (0 < times k pending) ⊎ IsWatched targets k w.on.items → (0 < times k pending') ⊎ IsWatched targets' k w.on.items
-  watched-still k target w n there is before = elim before [
-    | inl h ↦ changed.others k target w n there is h
-    | inr by ↦ elim (cases_eq at by.at) [
-      | inl same ↦
-          let both : Some old ≡ Some by.other = sym changed.there ∙ subst (λ j. slice_get targets j ≡ Some by.other) (sym same) by.there in
-          let eq : old ≡ by.other = cc in
-          let listed : 0 < times k old.watchers.items = subst (λ (s : Target). 0 < times k s.watchers.items) (sym eq) by.listed in
-          elim (changed.watchers k listed (ap is_decided_target eq ∙ by.undecided)) [
-            | inl still ↦ inr (record {
-              at = at;
-              other = new;
-              there = get-same targets at old new changed.there;
-              undecided = still.1;
-              awaited = subst (λ j. 0 < times j w.on.items) (sym same) by.awaited;
-              listed = still.0;
-            })
-            | inr now ↦ inl now
-          ]
-      | inr apart ↦ inr (record {
-        at = by.at;
-        other = by.other;
-        there = get-other targets at by.at new apart ∙ by.there;
-        undecided = by.undecided;
-        awaited = by.awaited;
-        listed = by.listed;
-      })
-    ]
+  -- who watched a target watches it still, where it keeps this watcher and isn't decided
+  watched-still : (X : Type 0) (k : ℕ) (on : List ℕ) → IsWatched targets k on →
+      (0 < times k old.watchers.items → is_decided_target old ≡ false → ((0 < times k new.watchers.items) × (is_decided_target new ≡ false)) ⊎ X) →
+      X ⊎ IsWatched targets' k on
+  watched-still X k on by keeps = elim (cases_eq at by.at) [
+    | inl same ↦
+        let both : Some old ≡ Some by.other = sym there ∙ subst (λ j. slice_get targets j ≡ Some by.other) (sym same) by.there in
+        let eq : old ≡ by.other = cc in
+        let listed : 0 < times k old.watchers.items = subst (λ (s : Target). 0 < times k s.watchers.items) (sym eq) by.listed in
+        elim (keeps listed (ap is_decided_target eq ∙ by.undecided)) [
+          | inl still ↦ inr (record {
+            at = at;
+            other = new;
+            there = get-same targets at old new there;
+            undecided = still.1;
+            awaited = subst (λ j. 0 < times j on) (sym same) by.awaited;
+            listed = still.0;
+          })
+          | inr now ↦ inl now
+        ]
+    | inr apart ↦ inr (record {
+      at = by.at;
+      other = by.other;
+      there = get-other targets at by.at new apart ∙ by.there;
+      undecided = by.undecided;
+      awaited = by.awaited;
+      listed = by.listed;
+    })
   ]
 
-  pub waiters-changed : AreWaiters (slice_set targets at new) pending'
-  waiters-changed = record {
-    awaited = λ k target w there is. elim (set-cases targets at k old new target changed.there there) [
-      | inl here ↦ changed.awaited w (ap (λ (y : Target). y.stage) here.1 ∙ is)
-      | inr before ↦ awaited-still w (kept.awaited k target w before.1 is)
-    ];
-    watched = λ k target w there is. elim (set-cases targets at k old new target changed.there there) [
-      | inl here ↦ subst (λ j. (0 < times j pending') ⊎ IsWatched targets' j w.on.items) here.0
-          (changed.own w (ap (λ (y : Target). y.stage) here.1 ∙ is))
-      | inr before ↦ watched-still k target w before.0 before.1 is (kept.watched k target w before.1 is)
-    ];
-  }
+-- the watchers of a target that isn't decided are its watchers still, or are to be looked at
+abbrev pub KeepsWatchers : Target → Target → List ℕ → Type 0
+KeepsWatchers old new pending = (k : ℕ) → 0 < times k old.watchers.items → is_decided_target old ≡ false →
+    ((0 < times k new.watchers.items) × (is_decided_target new ≡ false)) ⊎ (0 < times k pending)
+
+-- one target changes, and what is to be looked at again
+pub record IsChanged (targets : List Target) (pending pending' : List ℕ) (at : ℕ) (old new : Target) : Type 0 where
+  pub there : slice_get targets at ≡ Some old
+  pub stays : is_decided_target old ≡ true → is_decided_target new ≡ true
+  pub awaited : (w : waits.Waiting) → new.stage ≡ stages.Waiting w → IsAwaited (slice_set targets at new) w
+  pub own : (w : waits.Waiting) → new.stage ≡ stages.Waiting w → (0 < times at pending') ⊎ IsWatched (slice_set targets at new) at w.on.items
+  pub others : (k : ℕ) (target : Target) (w : waits.Waiting) → (at ≡ k → ⊥) → slice_get targets k ≡ Some target → target.stage ≡ stages.Waiting w →
+      0 < times k pending → (0 < times k pending') ⊎ IsWatched (slice_set targets at new) k w.on.items
+  pub watchers : KeepsWatchers old new pending'
+
+pub waiters-changed : (targets : List Target) (pending pending' : List ℕ) (at : ℕ) (old new : Target) → AreWaiters targets pending →
+    IsChanged targets pending pending' at old new → AreWaiters (slice_set targets at new) pending'
+waiters-changed targets pending pending' at old new kept changed = record {
+  awaited = λ k target w there is. elim (set-cases targets at k old new target changed.there there) [
+    | inl here ↦ changed.awaited w (ap (λ (y : Target). y.stage) here.1 ∙ is)
+    | inr before ↦ awaited-still targets at old new changed.there changed.stays w (kept.awaited k target w before.1 is)
+  ];
+  watched = λ k target w there is. elim (set-cases targets at k old new target changed.there there) [
+    | inl here ↦ subst (λ j. (0 < times j pending') ⊎ IsWatched (slice_set targets at new) j w.on.items) here.0
+        (changed.own w (ap (λ (y : Target). y.stage) here.1 ∙ is))
+    | inr before ↦ elim (kept.watched k target w before.1 is) [
+      | inl h ↦ changed.others k target w before.0 before.1 is h
+      | inr by ↦ watched-still targets at old new changed.there changed.stays (0 < times k pending') k w.on.items by (changed.watchers k)
+    ]
+  ];
+}
 
 -- a stage in which a target neither waits nor is decided
 pub plain-waits : (stage : Stage) (w : waits.Waiting) → is_plain stage ≡ true → stage ≡ stages.Waiting w → ⊥
@@ -106,16 +114,20 @@ plain-waits stage w plain e = both_ways _ (ap is_plain e) plain
 
 module _ (targets : List Target) (pending : List ℕ) (at : ℕ) (old new : Target) (kept : AreWaiters targets pending)
     (there : slice_get targets at ≡ Some old) (open' : is_decided_target old ≡ false) where
-  -- a target is put into another stage, in which it doesn't wait
-  pub put-waiters : is_plain new.stage ≡ true → is_decided_target new ≡ false → new.watchers ≡ old.watchers → AreWaiters (slice_set targets at new) pending
-  put-waiters plain still same = waiters-changed targets pending pending at old new kept (record {
+  -- a target is put into another stage, in which it doesn't wait; it needn't be looked at any more
+  pub plain-waiters : (pending' : List ℕ) → is_plain new.stage ≡ true → is_decided_target new ≡ false → new.watchers ≡ old.watchers →
+      ((k : ℕ) → (at ≡ k → ⊥) → 0 < times k pending → 0 < times k pending') → AreWaiters (slice_set targets at new) pending'
+  plain-waiters pending' plain still same left = waiters-changed targets pending pending' at old new kept (record {
     there = there;
     stays = λ d. absurd (both_ways _ open' d);
     awaited = λ w e. absurd (plain-waits new.stage w plain e);
     own = λ w e. absurd (plain-waits new.stage w plain e);
-    others = λ k target w n g e h. inl h;
+    others = λ k target w n g e h. inl (left k n h);
     watchers = λ k h f. inl (subst (λ (v : Vec ℕ Global). 0 < times k v.items) (sym same) h, still);
   })
+
+  pub put-waiters : is_plain new.stage ≡ true → is_decided_target new ≡ false → new.watchers ≡ old.watchers → AreWaiters (slice_set targets at new) pending
+  put-waiters plain still same = plain-waiters pending plain still same (λ k n h. h)
 
   -- a target waits, and is to be looked at
   pub wait-waiters : (on : Vec ℕ Global) → new.stage ≡ stages.Waiting (record { on = on; decided = 0 }) → new.watchers ≡ old.watchers →
@@ -153,51 +165,23 @@ decide-waiters targets pending more at old new kept there stage is = waiters-cha
   watchers = λ k h f. inr (let m : 0 < times k more = subst (λ xs. 0 < times k xs) (sym is) h in omega (arith, times-append k pending more, m));
 })
 
-seen-watched : (targets : List Target) (at : ℕ) (old new : Target) → slice_get targets at ≡ Some old → view_of new.stage ≡ view_of old.stage →
-    new.watchers.items ≡ old.watchers.items → (k : ℕ) (on : List ℕ) → IsWatched targets k on → IsWatched (slice_set targets at new) k on
-seen-watched targets at old new there stage same k on by = elim (cases_eq at by.at) [
-  | inl here ↦
-      let both : Some old ≡ Some by.other = sym there ∙ subst (λ j. slice_get targets j ≡ Some by.other) (sym here) by.there in
-      let eq : old ≡ by.other = cc in
-      record {
-        at = at;
-        other = new;
-        there = get-same targets at old new there;
-        undecided = ap is_decided stage ∙ ap is_decided_target eq ∙ by.undecided;
-        awaited = subst (λ j. 0 < times j on) (sym here) by.awaited;
-        listed = subst (λ xs. 0 < times k xs) (ap (λ (s : Target). s.watchers.items) (sym eq) ∙ sym same) by.listed;
-      }
-  | inr apart ↦ record {
-    at = by.at;
-    other = by.other;
-    there = get-other targets at by.at new apart ∙ by.there;
-    undecided = by.undecided;
-    awaited = by.awaited;
-    listed = by.listed;
-  }
-]
-
 -- a target that has the same stage and watchers
 pub same-waiters : (targets : List Target) (pending : List ℕ) (at : ℕ) (old new : Target) → AreWaiters targets pending → slice_get targets at ≡ Some old →
     new.stage ≡ old.stage → new.watchers.items ≡ old.watchers.items → AreWaiters (slice_set targets at new) pending
 same-waiters targets pending at old new kept there stage same =
-    let length' = length-set targets at new in
-    let seen-as : stages_of (slice_set targets at new) ≡ stages_of targets = stages-same targets at old new there (ap view_of stage) in
+    let stays : is_decided_target old ≡ true → is_decided_target new ≡ true = λ d. ap (λ s. is_decided (view_of s)) stage ∙ d in
+    let keeps : KeepsWatchers old new pending =
+    λ k h f. inl (subst (λ xs. 0 < times k xs) (sym same) h, ap (λ s. is_decided (view_of s)) stage ∙ f) in
     waiters-changed targets pending pending at old new kept (record {
       there = there;
-      stays = λ d. ap (λ s. is_decided (view_of s)) stage ∙ d;
-      awaited = λ w e.
-          let before = kept.awaited at old w there (sym stage ∙ e) in
-          record {
-            seen = λ i n g. omega (arith, before.seen i n g, length');
-            known = λ i n lt g. ap (λ ss. slice_get ss n) seen-as ∙ before.known i n lt g;
-          };
+      stays = stays;
+      awaited = λ w e. awaited-still targets at old new there stays w (kept.awaited at old w there (sym stage ∙ e));
       own = λ w e. elim (kept.watched at old w there (sym stage ∙ e)) [
         | inl h ↦ inl h
-        | inr by ↦ inr (seen-watched targets at old new there (ap view_of stage) same at w.on.items by)
+        | inr by ↦ watched-still targets at old new there stays (0 < times at pending) at w.on.items by (keeps at)
       ];
       others = λ k target w n g e h. inl h;
-      watchers = λ k h f. inl (subst (λ xs. 0 < times k xs) (sym same) h, ap (λ s. is_decided (view_of s)) stage ∙ f);
+      watchers = keeps;
     })
 
 pub plain-open : (stage : Stage) → is_plain stage ≡ true → is_decided (view_of stage) ≡ false
@@ -275,9 +259,11 @@ noted-waiters targets pending at count old new w kept there was is same known =
     let open' : is_decided_target old ≡ false = ap (λ s. is_decided (view_of s)) was in
     let still : is_decided_target new ≡ false = ap (λ s. is_decided (view_of s)) is in
     let before = kept.awaited at old w there was in
+    let stays : is_decided_target old ≡ true → is_decided_target new ≡ true = λ d. absurd (both_ways _ open' d) in
+    let keeps : KeepsWatchers old new pending = λ k h f. inl (subst (λ (v : Vec ℕ Global). 0 < times k v.items) (sym same) h, still) in
     waiters-changed targets pending pending at old new kept (record {
       there = there;
-      stays = λ d. absurd (both_ways _ open' d);
+      stays = stays;
       awaited = λ v e.
           let both : stages.Waiting (record { on = w.on; decided = count }) ≡ stages.Waiting v = sym is ∙ e in
           let eq : record { on = w.on; decided = count } ≡ v = cc in
@@ -291,11 +277,11 @@ noted-waiters targets pending at count old new w kept there was is same known =
           let on : w.on.items ≡ v.on.items = ap (λ (x : waits.Waiting). x.on.items) eq in
           elim (kept.watched at old w there was) [
             | inl h ↦ inl h
-            | inr by ↦ inr (subst (IsWatched (slice_set targets at new) at) on (seen-watched targets at old new there alike
-                (ap (λ (v : Vec ℕ Global). v.items) same) at w.on.items by))
+            | inr by ↦ watched-still targets at old new there stays (0 < times at pending) at v.on.items
+                (subst (IsWatched targets at) on by) (keeps at)
           ];
       others = λ k target v n g e h. inl h;
-      watchers = λ k h f. inl (subst (λ (v : Vec ℕ Global). 0 < times k v.items) (sym same) h, still);
+      watchers = keeps;
     })
 
 -- what a look at a target that waits finds
@@ -366,48 +352,20 @@ module _ (targets : List Target) (pending pending' : List ℕ) (at place : ℕ) 
     | inr apart ↦ inl (left k apart p)
   ]
 
-  grown-watched : (k : ℕ) (on' : List ℕ) → IsWatched targets k on' → IsWatched (slice_set targets place new) k on'
-  grown-watched k on' by = elim (cases_eq place by.at) [
-    | inl here ↦
-        let both : Some old ≡ Some by.other = sym there ∙ subst (λ j. slice_get targets j ≡ Some by.other) (sym here) by.there in
-        let eq : old ≡ by.other = cc in
-        let listed' : 0 < times k old.watchers.items = subst (λ (s : Target). 0 < times k s.watchers.items) (sym eq) by.listed in
-        record {
-          at = place;
-          other = new;
-          there = get-same targets place old new there;
-          undecided = still;
-          awaited = subst (λ j. 0 < times j on') (sym here) by.awaited;
-          listed = omega (arith, times-more k, listed');
-        }
-    | inr apart ↦ record {
-      at = by.at;
-      other = by.other;
-      there = get-other targets place by.at new apart ∙ by.there;
-      undecided = by.undecided;
-      awaited = by.awaited;
-      listed = by.listed;
-    }
-  ]
-
   pub watch-waiters : AreWaiters (slice_set targets place new) pending'
   watch-waiters =
-      let seen-as = stages-same targets place old new there (ap view_of stage) in
+      let stays : is_decided_target old ≡ true → is_decided_target new ≡ true = λ d. absurd (both_ways _ open' d) in
+      let keeps : KeepsWatchers old new pending' = λ k h f. inl (omega (arith, times-more k, h), still) in
       waiters-changed targets pending pending' place old new kept (record {
         there = there;
-        stays = λ d. absurd (both_ways _ open' d);
-        awaited = λ w e.
-            let before = kept.awaited place old w there (sym stage ∙ e) in
-            record {
-              seen = λ i n g. omega (arith, before.seen i n g, length-set targets place new);
-              known = λ i n lt g. ap (λ ss. slice_get ss n) seen-as ∙ before.known i n lt g;
-            };
+        stays = stays;
+        awaited = λ w e. awaited-still targets place old new there stays w (kept.awaited place old w there (sym stage ∙ e));
         own = λ w e. elim (kept.watched place old w there (sym stage ∙ e)) [
           | inl p ↦ others' place old w there (sym stage ∙ e) p
-          | inr by ↦ inr (grown-watched place w.on.items by)
+          | inr by ↦ watched-still targets place old new there stays (0 < times place pending') place w.on.items by (keeps place)
         ];
         others = λ k target w n g e p. others' k target w g e p;
-        watchers = λ k h f. inl (omega (arith, times-more k, h), still);
+        watchers = keeps;
       })
 
 -- a target that doesn't wait needn't be looked at
@@ -430,11 +388,5 @@ stray-waiters targets pending pending' at kept none left = record {
 pub hand-waiters : (targets : List Target) (pending pending' : List ℕ) (at : ℕ) (old new : Target) → AreWaiters targets pending → slice_get targets at ≡ Some old →
     is_decided_target old ≡ false → new.stage ≡ stages.InHand → new.watchers ≡ old.watchers →
     ((k : ℕ) → (at ≡ k → ⊥) → 0 < times k pending → 0 < times k pending') → AreWaiters (slice_set targets at new) pending'
-hand-waiters targets pending pending' at old new kept there open' stage same left = waiters-changed targets pending pending' at old new kept (record {
-  there = there;
-  stays = λ d. absurd (both_ways _ open' d);
-  awaited = λ w e. absurd (in-hand-waits w (sym stage ∙ e));
-  own = λ w e. absurd (in-hand-waits w (sym stage ∙ e));
-  others = λ k target w n g e p. inl (left k n p);
-  watchers = λ k h f. inl (subst (λ (v : Vec ℕ Global). 0 < times k v.items) (sym same) h, ap (λ s. is_decided (view_of s)) stage);
-})
+hand-waiters targets pending pending' at old new kept there open' stage same left = plain-waiters targets pending at old new kept there open' pending'
+    (ap is_plain stage) (ap (λ s. is_decided (view_of s)) stage) same left
