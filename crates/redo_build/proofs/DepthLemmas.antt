@@ -152,14 +152,6 @@ module _ (r : Rules) (lawful : AreLawful r) where
     reached-distinct n (suc k) = with_new-distinct (reached_in r request n k) (flat_map (asked_at r n) (reached_in r request n k)) (reached-distinct n k)
 
     module _ (limit : ℕ) (few : length (needed_at r request limit) ≤ limit) where
-      reached-start : (k : ℕ) → length (requested_targets r request) ≤ length (reached_in r request limit k)
-      reached-start zero = omega arith
-      reached-start (suc k) = omega (
-        arith,
-        reached-start k,
-        with_new-length (reached_in r request limit k) (flat_map (asked_at r limit) (reached_in r request limit k)),
-      )
-
       -- some round of asking at the limit added nothing
       full_round : 0 < length (requested_targets r request) → (k : ℕ) × (k < limit) ×
           (length (reached_in r request limit (suc k)) ≤ length (reached_in r request limit k))

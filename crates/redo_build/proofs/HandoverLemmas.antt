@@ -16,7 +16,7 @@ use Rattle.redo_build.specs.inside.Standing.{decided_count, AreStanding, rounds}
 use Rattle.redo_build.proofs.DepthLemmas.{cases_Option, operand-target, deeper, ended_stays}
 use Rattle.redo_build.proofs.SeenLemmas.{entry_of-path}
 use Rattle.redo_build.proofs.TurnLemmas.{CameTo-more, deps_at_turn-more, turns_agree, Extends-trans', only-Extends}
-use Rattle.redo_build.proofs.TurnLemmas.{CameTo-upto, begins_at-more, begun-later}
+use Rattle.redo_build.proofs.TurnLemmas.{CameTo-upto, begins-before, begins_at-more, begun-later}
 use Rattle.redo_build.proofs.StandingLemmas.{outcomes_of-deep}
 use Rattle.redo_build.proofs.SoundLemmas.{IsSound, out-parts}
 
@@ -41,9 +41,7 @@ module _ (r : Rules) (lawful : AreLawful r) (p : List ℕ) where
       begins_at r p a looks ≡ true → ((k : ℕ) → k < looks' → begins_at r p b k ≡ false) → looks < looks' → ⊥
   not-fewer a b c ac bc looks looks' turn turn' came_a came_b fed begun in_check below =
       let one = begun-more a c ac looks turn came_a fed in
-      let two =
-      begins_at-more r lawful p b c bc looks (CameTo-upto r lawful p b looks (looks' + turn') (omega arith) came_b)
-      (λ q m. came_b.answered looks q (omega arith) m) in
+      let two = begins-before r lawful p b c bc (looks' + turn') came_b looks (omega arith) in
       both_ways _ (in_check looks below) (two ∙ sym one ∙ begun)
 
   pub looks_agree : (a b c : Ask) → Extends r a c → Extends r b c → (looks looks' turn turn' : ℕ) →
@@ -101,9 +99,8 @@ module _ (r : Rules) (lawful : AreLawful r) (request : List (List ℕ)) (es : Li
     depth = decided_count es;
     looks = e.looks;
     begun = record {
-      in_check = λ k below. sym (begins_at-more r lawful p (outcomes_of es) (outcome_at r (decided_count es)) deep k
-          (CameTo-upto r lawful p (outcomes_of es) k (rounds e) (omega arith) under_way.0)
-          (λ q m. under_way.0.answered k q (omega arith) m)) ∙ under_way.2.in_check k below;
+      in_check = λ k below. sym (begins-before r lawful p (outcomes_of es) (outcome_at r (decided_count es)) deep (rounds e)
+          under_way.0 k (omega arith)) ∙ under_way.2.in_check k below;
       begun = sym (begun-more r lawful p (outcomes_of es) (outcome_at r (decided_count es)) deep e.looks e.turn
           under_way.0 fed_there) ∙ under_way.2.begun;
     };

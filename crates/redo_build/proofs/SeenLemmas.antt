@@ -144,19 +144,6 @@ decided_count-length (e ∷ es) = elim (cases_Bool (is_some e.outcome)) [
   | inr f ↦ rw f (omega (arith, decided_count-length es))
 ]
 
--- one that isn't decided isn't counted
-pub decided_count-open : (es : List Entry) (p : List ℕ) (e : Entry) → entry_of es p ≡ Some e → e.outcome ≡ None →
-    decided_count es < length (paths_of es)
-decided_count-open [] p e h open' = cc
-decided_count-open (x ∷ es) p e h open' = elim (cases_Bool (bytes_eq x.path p)) [
-  | inl t ↦
-      let same : x ≡ e = let now = rw t at h in cc in
-      rw (ap (λ (y : Entry). y.outcome) same, open') (omega (arith, decided_count-length es))
-  | inr f ↦
-      let rest = decided_count-open es p e (rw f at h) open' in
-      elim (cases_Bool (is_some x.outcome)) [ inl s ↦ rw s (omega (arith, rest)) | inr s ↦ rw s (omega (arith, rest)) ]
-]
-
 pub decided_count-some : (es : List Entry) (p : List ℕ) (e : Entry) (o : Outcome) → entry_of es p ≡ Some e → e.outcome ≡ Some o →
     0 < decided_count es
 decided_count-some [] p e o h done = cc

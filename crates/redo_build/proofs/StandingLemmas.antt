@@ -22,7 +22,7 @@ use Rattle.redo_build.proofs.SeenLemmas.{entry_of-path, outcomes_of-entry, outco
 use Rattle.redo_build.proofs.SeenLemmas.{put-new, put-from, put-cases, entry_of-put_other, decided_count-put, decided_count-some}
 use Rattle.redo_build.proofs.SeenLemmas.{decided_count-entered, new_entry-path, paths_of-entered, entry_of-entered_old}
 use Rattle.redo_build.proofs.SeenLemmas.{entry_of-entered_cases, phase_cases}
-use Rattle.redo_build.proofs.TurnLemmas.{only-Extends, CameTo-more, deps_at_turn-more, CameTo-upto, begins_at-more}
+use Rattle.redo_build.proofs.TurnLemmas.{only-Extends, CameTo-more, deps_at_turn-more, begins-before}
 use Rattle.redo_build.proofs.TurnLemmas.{begun-later}
 
 module _ (r : Rules) (lawful : AreLawful r) (request : List (List ℕ)) where
@@ -56,12 +56,10 @@ module _ (r : Rules) (lawful : AreLawful r) (request : List (List ℕ)) where
   IsUnderWay-more es fs e more h = record {
     came = CameTo-more r lawful e.path (outcomes_of es) (outcomes_of fs) more (rounds e) h.came;
     is = h.is ∙ deps_at_turn-more r lawful e.path (outcomes_of es) (outcomes_of fs) more (rounds e) h.came;
-    in_check = λ k below. sym (begins_at-more r lawful e.path (outcomes_of es) (outcomes_of fs) more k
-        (CameTo-upto r lawful e.path (outcomes_of es) k (rounds e) (omega arith) h.came)
-        (λ q m. h.came.answered k q (omega arith) m)) ∙ h.in_check k below;
-    begun = λ later. sym (begins_at-more r lawful e.path (outcomes_of es) (outcomes_of fs) more e.looks
-        (CameTo-upto r lawful e.path (outcomes_of es) e.looks (rounds e) (omega arith) h.came)
-        (λ q m. h.came.answered e.looks q (omega arith) m)) ∙ h.begun later;
+    in_check = λ k below. sym (begins-before r lawful e.path (outcomes_of es) (outcomes_of fs) more (rounds e) h.came k
+        (omega arith)) ∙ h.in_check k below;
+    begun = λ later. sym (begins-before r lawful e.path (outcomes_of es) (outcomes_of fs) more (rounds e) h.came e.looks
+        (omega arith)) ∙ h.begun later;
   }
 
   pub IsDecidedAs-more : (es fs : List Entry) (e : Entry) (o : Outcome) → decided_count es ≤ decided_count fs →
@@ -364,10 +362,8 @@ module _ (r : Rules) (lawful : AreLawful r) (request : List (List ℕ)) where
           let stays : (k : ℕ) → k ≤ rounds e →
           begins_at r e.path (outcomes_of es) k ≡ begins_at r e.path
           (outcomes_of (put es (moved_on phase e (advanced r es e)))) k =
-          λ k h. begins_at-more r lawful e.path (outcomes_of es)
-          (outcomes_of (put es (moved_on phase e (advanced r es e)))) moved-outcomes k
-          (CameTo-upto r lawful e.path (outcomes_of es) k (suc (rounds e)) (omega arith) came)
-          (λ q m. came.answered k q (omega arith) m) in
+          λ k h. begins-before r lawful e.path (outcomes_of es)
+          (outcomes_of (put es (moved_on phase e (advanced r es e)))) moved-outcomes (suc (rounds e)) came k (omega arith) in
           record {
             came = subst P (sym turn) more;
             is = subst Q (sym turn) deps';

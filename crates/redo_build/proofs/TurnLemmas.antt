@@ -1,5 +1,5 @@
 -- What a script did at its earlier turns doesn't change as more targets are decided.
-use Rattle.std.proofs.Common.{◌≡◌, ℕ, zero, suc, ◌≤◌, inl, inr, List, Some, None, refl, sym, ap, subst, ◌∙◌, arith}
+use Rattle.std.proofs.Common.{◌≡◌, ℕ, zero, suc, ◌<◌, ◌≤◌, inl, inr, List, Some, None, refl, sym, ap, subst, ◌∙◌, arith}
 use Rattle.std.proofs.Common.{true}
 use Rattle.std.proofs.lemmas.Bool.{cases_Bool, cases_lt}
 use Rattle.redo_names.proofs.PathLemmas.{among-told, told-among}
@@ -115,6 +115,12 @@ module _ (r : Rules) (lawful : AreLawful r) where
   pub turn-more : (p : List ℕ) (a : Ask) (k : ℕ) → CameTo r p a k →
       Extends r (only (operands r (deps_at_turn r p a k)) a) (only (operands r (deps_at_turn r p a (suc k))) a)
   turn-more p a k came = asks-more (deps_at_turn r p a k) (deps_at_turn r p a (suc k)) a (asked-more p a k came)
+
+  -- whether it was begun at an earlier turn stays
+  pub begins-before : (p : List ℕ) (a b : Ask) → Extends r a b → (n : ℕ) → CameTo r p a n → (k : ℕ) → k < n →
+      begins_at r p a k ≡ begins_at r p b k
+  begins-before p a b more n came k below =
+      begins_at-more p a b more k (CameTo-upto p a k n (omega arith) came) (λ q m. came.answered k q below m)
 
   -- what is begun stays begun at later turns
   pub begun-later : (p : List ℕ) (a : Ask) (j k : ℕ) → j ≤ k → CameTo r p a k → begins_at r p a j ≡ true →
