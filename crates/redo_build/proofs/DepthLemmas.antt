@@ -58,9 +58,6 @@ module _ (r : Rules) (lawful : AreLawful r) where
         | inr some ↦ some.1 ∙ sym (more q some.0 (operand-target (r.progress p a).deps q m) some.1)
       ])
 
-  pub Extends-trans : (a b c : Ask) → Extends r a b → Extends r b c → Extends r a c
-  Extends-trans a b c h k q o s e = k q o s (h q o s e)
-
   pub deeper_once : (n : ℕ) → Extends r (outcome_at r n) (outcome_at r (suc n))
   deeper_once zero q o s e = let none = outcome_at-zero q s in cc
   deeper_once (suc n) q o s e =
@@ -73,7 +70,7 @@ module _ (r : Rules) (lawful : AreLawful r) where
   deeper n zero h = let e : n ≡ 0 = omega arith in λ q o s k. rw e at k
   deeper n (suc m) h = elim (cases_lt m n) [
     | inl above ↦ let e : n ≡ suc m = omega arith in λ q o s k. rw e at k
-    | inr below ↦ Extends-trans (outcome_at r n) (outcome_at r m) (outcome_at r (suc m)) (deeper n m below) (deeper_once m)
+    | inr below ↦ λ q o s k. deeper_once m q o s (deeper n m below q o s k)
   ]
 
   pub asked_at-grows : (n m : ℕ) (p q : List ℕ) → n ≤ m → IsAmong (asked_at r n p) q → IsAmong (asked_at r m p) q

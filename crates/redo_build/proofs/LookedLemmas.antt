@@ -1,8 +1,8 @@
 -- What so many looks lead to: a state that is reached, with as many jobs out and no more takes left; and a state that
 -- shows the build leaves nothing to look at.
-use Rattle.std.proofs.Common.{◌≡◌, ℕ, zero, suc, ◌≤◌, inl, inr, List, length, Option, Some, None}
+use Rattle.std.proofs.Common.{◌≡◌, ℕ, zero, suc, ◌≤◌, List, length, Option, Some, None}
 use Rattle.std.proofs.Common.{true, sym, subst, ◌∙◌, arith}
-use Rattle.std.proofs.lemmas.Bool.{cases_Bool, and_parts}
+use Rattle.std.proofs.lemmas.Bool.{and_parts, false_from_ne_true}
 use Rattle.redo_record.specs.Paths.{IsAmong}
 use Rattle.redo_record.specs.Progress.{Progress}
 use Rattle.redo_record.specs.declared.deps.Dep.{Dep}
@@ -59,10 +59,7 @@ module _ (r : Rules) (lawful : AreLawful r) (request : List (List ℕ)) where
   -- what shows the build leaves nothing to look at: what isn't decided there lacks an answer for good
   pub shown-none_due : (limit : ℕ) (s : State) → IsSound r request s → ShowsBuild r request limit s → NoneDue r s
   shown-none_due limit s sound shown =
-      none-due-from r s sound.standing.distinct (λ p e at. elim (cases_Bool (is_due r s e)) [
-        | inl due ↦ absurd (never p e at due)
-        | inr f ↦ f
-      ])
+      none-due-from r s sound.standing.distinct (λ p e at. false_from_ne_true _ (never p e at))
     where
       never : (p : List ℕ) (e : Entry) → entry_of s.entries p ≡ Some e → is_due r s e ≡ true → ⊥
       never p e at due =

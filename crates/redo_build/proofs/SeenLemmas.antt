@@ -1,7 +1,7 @@
 -- Lemmas on lists of entries.
 use Rattle.std.proofs.Common.{◌≡◌, ℕ, suc, ◌+◌, ◌<◌, ◌≤◌, true, false, cond, ◌⊎◌, inl, inr, List, [], ◌∷◌, ◌++◌, length}
 use Rattle.std.proofs.Common.{Some, None, is_some, refl, sym, ap, subst, ◌∙◌, arith, bytes_eq, length-append}
-use Rattle.std.proofs.lemmas.Bool.{cases_Bool, both_ways}
+use Rattle.std.proofs.lemmas.Bool.{cases_Bool, both_ways, false_from_ne_true}
 use Rattle.std.proofs.lemmas.Slice.Eq.{bytes_eq-Decides}
 use Rattle.redo_record.specs.Paths.{is_among, with_new, IsAmong}
 use Rattle.redo_record.specs.declared.outcome.Outcome.{Outcome}
@@ -97,10 +97,7 @@ entry_of-put_other (x ∷ es) e p other = elim (cases_Bool (bytes_eq x.path e.pa
 ]
   where
     not_same : (a b : List ℕ) → (a ≡ b → ⊥) → bytes_eq a b ≡ false
-    not_same a b h = elim (cases_Bool (bytes_eq a b)) [
-      | inl t' ↦ absurd (h ((bytes_eq-Decides a b).0 t'))
-      | inr f' ↦ f'
-    ]
+    not_same a b h = false_from_ne_true _ (λ t. h ((bytes_eq-Decides a b).0 t))
 
 -- an entry is put where another one stood
 module _ (es : List Entry) (new old : Entry) (at : entry_of es new.path ≡ Some old) where

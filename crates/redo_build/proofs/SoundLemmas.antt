@@ -3,7 +3,7 @@ use Rattle.std.proofs.Common.{◌≡◌, ℕ, ◌<◌, Bool, true, false, ◌⊎
 use Rattle.std.proofs.Common.{Option, Some, None}
 use Rattle.std.proofs.Common.{is_none, slice_get, remove, option_and_then, refl, sym, ap, subst, ◌∙◌}
 use Rattle.std.specs.List.{list_any}
-use Rattle.std.proofs.lemmas.Bool.{cases_Bool, both_ways, and_parts, or_parts, or_cases, not-true, not-false}
+use Rattle.std.proofs.lemmas.Bool.{cases_Bool, both_ways, and_parts, or_parts, or_cases, not-true, not-false, false_from_ne_true}
 use Rattle.std.proofs.lemmas.Bool.{not_from_false, and_from}
 use Rattle.redo_names.proofs.ListLemmas.{IsAmong-same, IsAmong-append, IsAmong-left, IsAmong-right}
 use Rattle.redo_names.proofs.PathLemmas.{among-told, place-among, told-among}
@@ -201,10 +201,7 @@ module _ (r : Rules) (lawful : AreLawful r) (request : List (List ℕ)) where
           subst P (entry_of-path s.entries p e at) (may_run-parts r s e free).3
 
       not_among : (ps : List (List ℕ)) (p : List ℕ) → (IsAmong ps p → ⊥) → is_among ps p ≡ false
-      not_among ps p h = elim (cases_Bool (is_among ps p)) [
-        | inl t ↦ absurd (h (among-told ps p t))
-        | inr f ↦ f
-      ]
+      not_among ps p h = false_from_ne_true _ (λ t. h (among-told ps p t))
 
   pub nothing-standing : AreStanding r request []
   nothing-standing = record {

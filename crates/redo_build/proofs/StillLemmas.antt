@@ -1,7 +1,7 @@
 -- What looks leave as it is, and that a take makes nothing due.
 use Rattle.std.proofs.Common.{◌≡◌, ℕ, ◌<◌, ◌↔◌, true, false, inl, inr, List, [], ◌∷◌, ◌++◌, length}
 use Rattle.std.proofs.Common.{Some, is_none, slice_get, option_and_then, remove, refl, sym, ap, subst, ◌∙◌}
-use Rattle.std.proofs.lemmas.Bool.{cases_Bool, both_ways, and_parts, and_from, not-true, not_from_false}
+use Rattle.std.proofs.lemmas.Bool.{both_ways, and_parts, and_from, not-true, not_from_false, false_from_ne_true}
 use Rattle.redo_names.proofs.PathLemmas.{among-told, told-among}
 use Rattle.redo_record.specs.Paths.{is_among}
 use Rattle.redo_build.specs.Rules.{Rules, AreLawful, operands}
@@ -116,12 +116,10 @@ module _ (r : Rules) (lawful : AreLawful r) (request : List (List ℕ)) where
           let same = sent-outcomes r lawful request s.entries sound.standing e of.at of.open_yet in
           let fed : lacks_none r s.entries x ≡ true = lacks_none-from r s.entries x (λ y m missing.
           lacks_none-true r then'.entries x parts.1 y m (same y ∙ missing)) in
-          let waits : is_among s.ready x.path ≡ false = (elim (cases_Bool (is_among s.ready x.path)) [
-            | inl t ↦ absurd (elim (remove-cases s.ready which e.path x.path of.ready (among-told s.ready x.path t)) [
-              | inl taken' ↦ before.0 (taken' ∙ entry_of-path s.entries q x before.1)
-              | inr left ↦ both_ways _ parts.3 (told-among (remove s.ready which) x.path left)
-            ])
-            | inr f ↦ f
+          let waits : is_among s.ready x.path ≡ false = false_from_ne_true _ (λ t.
+          elim (remove-cases s.ready which e.path x.path of.ready (among-told s.ready x.path t)) [
+            | inl taken' ↦ before.0 (taken' ∙ entry_of-path s.entries q x before.1)
+            | inr left ↦ both_ways _ parts.3 (told-among (remove s.ready which) x.path left)
           ]) in
           let known : r.begins x.path (known_to r then'.entries x) ≡ r.begins x.path (known_to r s.entries x) =
           lawful.begins_local x.path (known_to r then'.entries x) (known_to r s.entries x) (λ y m.
@@ -142,7 +140,4 @@ module _ (r : Rules) (lawful : AreLawful r) (request : List (List ℕ)) where
       let S : State → Type 0 = IsSound r request in
       let N : State → Type 0 = NoneDue r in
       subst N (sym of.is) (none-due-from r (taken s (Some of.entry) which) (subst S of.is next).standing.distinct
-      (λ q x there. elim (cases_Bool (is_due r (taken s (Some of.entry) which) x)) [
-        | inl due ↦ absurd (not-due s sound none which of q x there due)
-        | inr f ↦ f
-      ]))
+      (λ q x there. false_from_ne_true _ (not-due s sound none which of q x there)))
