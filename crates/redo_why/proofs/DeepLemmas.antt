@@ -15,7 +15,7 @@ use Rattle.redo_skip.specs.NewBook.{LastRun, checks_of}
 use Rattle.redo_skip.proofs.NewBookLemmas.{check-known}
 use Rattle.redo_why.specs.Verdicts.{Verdicts, verdict_checked, verdict_at, AreFixed, AreReached}
 use Rattle.redo_why.specs.OutOfDate.{named, rests_on, checks_left, IsLeftAlone}
-use Rattle.redo_why.proofs.MarkLemmas.{Grows, checked-grows, checked-same, others-same, AreAlikeAt}
+use Rattle.redo_why.proofs.MarkLemmas.{Grows, checked-grows, checked-same, same-both, others-same, AreAlikeAt}
 use Rattle.redo_why.proofs.ReasonLemmas.{check_from}
 
 -- How many of the paths have a verdict
@@ -163,14 +163,8 @@ module _ (s : Sources) (last : LastRun) (request : List (List ℕ)) (v : Verdict
       ]
 
   pub fixed-is : (p : List ℕ) → v p ≡ verdict_at s (checks_of s last request) (length last.book) p
-  fixed-is p = elim (cases_Option (v p)) [
-    | inr some ↦ some.1 ∙ sym (all-reached p some.0 some.1)
-    | inl none ↦ elim (cases_Option (verdict_at s (checks_of s last request) (length last.book) p)) [
-      | inl none' ↦ none ∙ sym none'
-      | inr some ↦ absurd (
-          let bad : None ≡ Some some.0 = sym none ∙ all-fixed (length last.book) p some.0 some.1 in cc)
-    ]
-  ]
+  fixed-is p = same-both (v p) (verdict_at s (checks_of s last request) (length last.book) p) (all-reached p)
+      (all-fixed (length last.book) p)
 
 -- What is left alone
 

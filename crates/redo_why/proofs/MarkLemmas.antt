@@ -15,18 +15,36 @@ use Rattle.redo_skip.specs.Checks.{is_asked, file_told, source_file, has_state, 
 use Rattle.redo_skip.specs.Checks.{falls, stands_if, standing, asks, finding, Check, Checks}
 use Rattle.redo_skip.proofs.CheckLemmas.{by_answer, standing-asked, standing-fixed, among-asks, found-first}
 use Rattle.redo_skip.proofs.CheckLemmas.{found-later, found-stands}
-use Rattle.redo_build.proofs.DepthLemmas.{cases_Option}
 use Rattle.redo_why.specs.Verdicts.{Verdict, Keeps, Begins, Either, Verdicts, Mark, Holds, Drops, Unsure, Waits}
 use Rattle.redo_why.specs.Verdicts.{holds_if, mark_checked, mark_asked, mark, verdict_by, verdict, verdict_checked}
 use Rattle.redo_why.specs.OutOfDate.{drop_by, entry_path, first_drop, first_unsure, named, unsure_by}
 use Rattle.redo_why.specs.Reasons.{first_fallen}
-use Rattle.redo_why.proofs.ReasonLemmas.{by-stands, by-falls, by-lacks, first-stands, first-falls}
+use Rattle.redo_why.proofs.ReasonLemmas.{by-stands, by-lacks, first-stands, first-falls, first-falls-all}
 
-pub cases_Mark : (m : Mark) → (m ≡ Holds) ⊎ ((m ≡ Drops) ⊎ ((m ≡ Unsure) ⊎ (m ≡ Waits)))
-cases_Mark Holds = inl refl
-cases_Mark Drops = inr (inl refl)
-cases_Mark Unsure = inr (inr (inl refl))
-cases_Mark Waits = inr (inr (inr refl))
+-- What the verdict tells of the first entry
+
+keeps-by : (m : Mark) (rest : Option Verdict) → verdict_by m rest ≡ Some Keeps → (m ≡ Holds) × (rest ≡ Some Keeps)
+keeps-by Holds rest h = (refl, h)
+keeps-by _ rest h = absurd cc
+
+begins-by : (m : Mark) (rest : Option Verdict) → verdict_by m rest ≡ Some Begins →
+    ((m ≡ Holds) × (rest ≡ Some Begins)) ⊎ (m ≡ Drops)
+begins-by Holds rest h = inl (refl, h)
+begins-by Drops rest h = inr refl
+begins-by _ rest h = absurd cc
+
+either-by : (m : Mark) (rest : Option Verdict) → verdict_by m rest ≡ Some Either →
+    ((m ≡ Holds) × (rest ≡ Some Either)) ⊎ (m ≡ Unsure)
+either-by Holds rest h = inl (refl, h)
+either-by Unsure rest h = inr refl
+either-by _ rest h = absurd cc
+
+none-by : (m : Mark) (rest : Option Verdict) → verdict_by m rest ≡ None → ((m ≡ Holds) × (rest ≡ None)) ⊎ (m ≡ Waits)
+none-by Holds rest h = inl (refl, h)
+none-by Waits rest h = inr refl
+none-by _ rest h = absurd cc
+
+-- Of a path that is asked for
 
 holds_if-holds : (t : Bool) → holds_if t ≡ Holds → t ≡ true
 holds_if-holds true e = refl
@@ -53,32 +71,24 @@ record IsKept (state : State) (o : Option Check) (v : Option Verdict) (same : Bo
 
 asked-holds : (ruled : Bool) (state : State) (o : Option Check) (v : Option Verdict) →
     mark_asked ruled state o v ≡ Holds → IsKept state o v true
-asked-holds true state None v e = absurd cc
-asked-holds false state None v e = absurd cc
-asked-holds ruled state (Some c) None e = absurd cc
 asked-holds ruled state (Some c) (Some Keeps) e =
     record { check = c; at = refl; keeps = refl; agrees = holds_if-holds (same_state (state_of c.file) state) e }
-asked-holds ruled state (Some c) (Some Begins) e = absurd cc
-asked-holds ruled state (Some c) (Some Either) e = absurd cc
+asked-holds true state None v e = absurd cc
+asked-holds _ state _ _ e = absurd cc
 
 asked-drops : (ruled : Bool) (state : State) (o : Option Check) (v : Option Verdict) →
     mark_asked ruled state o v ≡ Drops → IsKept state o v false ⊎ (ruled ≡ false)
-asked-drops true state None v e = absurd cc
-asked-drops false state None v e = inr refl
-asked-drops ruled state (Some c) None e = absurd cc
 asked-drops ruled state (Some c) (Some Keeps) e =
     inl (record { check = c; at = refl; keeps = refl; agrees = holds_if-drops (same_state (state_of c.file) state) e })
-asked-drops ruled state (Some c) (Some Begins) e = absurd cc
-asked-drops ruled state (Some c) (Some Either) e = absurd cc
+asked-drops false state None v e = inr refl
+asked-drops _ state _ _ e = absurd cc
 
 asked-waits : (ruled : Bool) (state : State) (o : Option Check) (v : Option Verdict) →
     mark_asked ruled state o v ≡ Waits → ((c : Check) × (o ≡ Some c)) × (v ≡ None)
-asked-waits true state None v e = absurd cc
-asked-waits false state None v e = absurd cc
 asked-waits ruled state (Some c) None e = ((c, refl), refl)
 asked-waits ruled state (Some c) (Some Keeps) e = absurd (holds_if-waits (same_state (state_of c.file) state) e)
-asked-waits ruled state (Some c) (Some Begins) e = absurd cc
-asked-waits ruled state (Some c) (Some Either) e = absurd cc
+asked-waits true state None v e = absurd cc
+asked-waits _ state _ _ e = absurd cc
 
 module _ (s : Sources) (k : Checks) (v : Verdicts) where
   pub mark-asked : (state : State) (x : List ℕ) → is_asked s x ≡ true →
@@ -89,9 +99,14 @@ module _ (s : Sources) (k : Checks) (v : Verdicts) where
       mark s k v (Change state x) ≡ holds_if (has_state state (source_file s x))
   mark-fixed state x f = rw f refl
 
-  pub verdict-first : (e : BookEntry) (m : Mark) (rest : Option Verdict) → mark s k v e ≡ m →
-      verdict_by (mark s k v e) rest ≡ verdict_by m rest
-  verdict-first e m rest is = ap (λ x. verdict_by x rest) is
+module _ (s : Sources) (a : Ask) (P : List ℕ → Type 0) (e : BookEntry) (es : List BookEntry)
+    (all : (q : List ℕ) → IsAmong (finding s a (e ∷ es)).asked q → P q) where
+  -- what holds of all that is asked for, of the first entry and of the further ones
+  at-first : (q : List ℕ) → IsAmong (asks s e) q → P q
+  at-first q m = all q (found-first s e (standing s a e) (finding s a es) q m)
+
+  at-later : standing s a e ≡ stands → (q : List ℕ) → IsAmong (finding s a es).asked q → P q
+  at-later here q m = all q (found-later s e (standing s a e) (finding s a es) q here m)
 
 module _ (s : Sources) (k : Checks) (v : Verdicts) (a : Ask) where
   -- the answer to a path is as its verdict says: it is kept; or it has no rule, and fails
@@ -139,51 +154,10 @@ module _ (s : Sources) (k : Checks) (v : Verdicts) (a : Ask) where
       ((q : List ℕ) → IsAmong (finding s a es).asked q → FitsAt q) → (finding s a es).standing ≡ stands
   keeps-stands [] h fits = refl
   keeps-stands (e ∷ es) h fits =
-      let first : (q : List ℕ) → IsAmong (asks s e) q → FitsAt q =
-      λ q m. fits q (found-first s e (standing s a e) (finding s a es) q m) in
-      elim (cases_Mark (mark s k v e)) [
-        | inl holds ↦
-            let here = holds-stands e holds first in
-            by-stands s a e (standing s a e) (finding s a es) here
-            ∙ keeps-stands es (sym (verdict-first s k v e Holds (verdict s k v es) holds) ∙ h)
-            (λ q m. fits q (found-later s e (standing s a e) (finding s a es) q here m))
-        | inr other ↦ elim other [
-          | inl drops ↦ absurd (
-              let bad : Some Begins ≡ Some Keeps = sym (verdict-first s k v e Drops (verdict s k v es) drops) ∙ h in cc)
-          | inr more ↦ elim more [
-            | inl unsure ↦ absurd (
-                let bad : Some Either ≡ Some Keeps =
-                sym (verdict-first s k v e Unsure (verdict s k v es) unsure) ∙ h in cc)
-            | inr waits ↦ absurd (
-                let bad : None ≡ Some Keeps = sym (verdict-first s k v e Waits (verdict s k v es) waits) ∙ h in cc)
-          ]
-        ]
-      ]
-
-  -- what is begun by its verdict falls in the check
-  pub begins-falls : (es : List BookEntry) → verdict s k v es ≡ Some Begins →
-      ((q : List ℕ) → IsAmong (finding s a es).asked q → FitsAt q) → (finding s a es).standing ≡ falls
-  begins-falls [] h fits = absurd (let bad : Some Keeps ≡ Some Begins = h in cc)
-  begins-falls (e ∷ es) h fits =
-      let first : (q : List ℕ) → IsAmong (asks s e) q → FitsAt q =
-      λ q m. fits q (found-first s e (standing s a e) (finding s a es) q m) in
-      elim (cases_Mark (mark s k v e)) [
-        | inl holds ↦
-            let here = holds-stands e holds first in
-            by-stands s a e (standing s a e) (finding s a es) here
-            ∙ begins-falls es (sym (verdict-first s k v e Holds (verdict s k v es) holds) ∙ h)
-            (λ q m. fits q (found-later s e (standing s a e) (finding s a es) q here m))
-        | inr other ↦ elim other [
-          | inl drops ↦ by-falls s a e (standing s a e) (finding s a es) (drops-falls e drops first)
-          | inr more ↦ elim more [
-            | inl unsure ↦ absurd (
-                let bad : Some Either ≡ Some Begins =
-                sym (verdict-first s k v e Unsure (verdict s k v es) unsure) ∙ h in cc)
-            | inr waits ↦ absurd (
-                let bad : None ≡ Some Begins = sym (verdict-first s k v e Waits (verdict s k v es) waits) ∙ h in cc)
-          ]
-        ]
-      ]
+      let both = keeps-by (mark s k v e) (verdict s k v es) h in
+      let here = holds-stands e both.0 (at-first s a FitsAt e es fits) in
+      by-stands s a e (standing s a e) (finding s a es) here
+      ∙ keeps-stands es both.1 (at-later s a FitsAt e es fits here)
 
   drop-later : (e d : BookEntry) (m : Mark) (rest : Option BookEntry) → (m ≡ Drops → ⊥) → drop_by e m rest ≡ Some d →
       rest ≡ Some d
@@ -199,10 +173,9 @@ module _ (s : Sources) (k : Checks) (v : Verdicts) (a : Ask) where
   drop-refutes (e ∷ es) d is t fits =
       let both = found-stands s e (standing s a e) (finding s a es) t in
       let not_here : mark s k v e ≡ Drops → ⊥ = λ drops.
-      let bad : falls ≡ stands = sym (drops-falls e drops
-      (λ q m. fits q (found-first s e (standing s a e) (finding s a es) q m))) ∙ both.0 in cc in
+      let fell = drops-falls e drops (at-first s a FitsAt e es fits) in let stood = both.0 in cc in
       drop-refutes es d (drop-later e d (mark s k v e) (first_drop s k v es) not_here is) both.1
-      (λ q m. fits q (found-later s e (standing s a e) (finding s a es) q both.0 m))
+      (at-later s a FitsAt e es fits both.0)
 
 -- More verdicts
 
@@ -218,6 +191,12 @@ asked-grows ruled state (Some c) None y more goes = absurd (goes refl)
 asked-grows ruled state (Some c) (Some z) y more goes =
     ap (mark_checked (same_state (state_of c.file) state)) (more z refl)
 
+grows-by : (m n : Mark) (rest rest' : Option Verdict) (x : Verdict) → ((m ≡ Waits → ⊥) → n ≡ m) →
+    (rest ≡ Some x → rest' ≡ Some x) → verdict_by m rest ≡ Some x → verdict_by n rest' ≡ Some x
+grows-by Waits n rest rest' x same more is = absurd cc
+grows-by Holds n rest rest' x same more is = rw (same (λ bad. cc)) (more is)
+grows-by _ n rest rest' x same more is = rw (same (λ bad. cc)) is
+
 module _ (s : Sources) (k : Checks) (v w : Verdicts) (more : Grows v w) where
   mark-grows : (e : BookEntry) → (mark s k v e ≡ Waits → ⊥) → mark s k w e ≡ mark s k v e
   mark-grows (Change state x) goes = elim (cases_Bool (is_asked s x)) [
@@ -232,43 +211,25 @@ module _ (s : Sources) (k : Checks) (v w : Verdicts) (more : Grows v w) where
 
   pub verdict-grows : (es : List BookEntry) (x : Verdict) → verdict s k v es ≡ Some x → verdict s k w es ≡ Some x
   verdict-grows [] x is = is
-  verdict-grows (e ∷ es) x is = elim (cases_Mark (mark s k v e)) [
-    | inl holds ↦
-        let there = mark-grows e (λ e'. let bad : Holds ≡ Waits = sym holds ∙ e' in cc) ∙ holds in
-        verdict-first s k w e Holds (verdict s k w es) there
-        ∙ verdict-grows es x (sym (verdict-first s k v e Holds (verdict s k v es) holds) ∙ is)
-    | inr other ↦ elim other [
-      | inl drops ↦
-          let there = mark-grows e (λ e'. let bad : Drops ≡ Waits = sym drops ∙ e' in cc) ∙ drops in
-          verdict-first s k w e Drops (verdict s k w es) there
-          ∙ (sym (verdict-first s k v e Drops (verdict s k v es) drops) ∙ is)
-      | inr more' ↦ elim more' [
-        | inl unsure ↦
-            let there = mark-grows e (λ e'. let bad : Unsure ≡ Waits = sym unsure ∙ e' in cc) ∙ unsure in
-            verdict-first s k w e Unsure (verdict s k w es) there
-            ∙ (sym (verdict-first s k v e Unsure (verdict s k v es) unsure) ∙ is)
-        | inr waits ↦ absurd (
-            let bad : None ≡ Some x = sym (verdict-first s k v e Waits (verdict s k v es) waits) ∙ is in cc)
-      ]
-    ]
-  ]
+  verdict-grows (e ∷ es) x is = grows-by (mark s k v e) (mark s k w e) (verdict s k v es) (verdict s k w es) x
+      (mark-grows e) (verdict-grows es x) is
 
   pub checked-grows : (o : Option Check) (x : Verdict) → verdict_checked s k v o ≡ Some x →
       verdict_checked s k w o ≡ Some x
   checked-grows None x is = is
   checked-grows (Some c) x is = verdict-grows c.entries x is
 
--- where each has the verdicts of the other they are the same
+-- where each has what the other has they are the same
+pub same-both : {A : Type 0} (x y : Option A) → ((z : A) → x ≡ Some z → y ≡ Some z) →
+    ((z : A) → y ≡ Some z → x ≡ Some z) → x ≡ y
+same-both (Some z) y more less = sym (more z refl)
+same-both None (Some z) more less = less z refl
+same-both None None more less = refl
+
 pub checked-same : (s : Sources) (k : Checks) (v w : Verdicts) → Grows v w → Grows w v → (o : Option Check) →
     verdict_checked s k v o ≡ verdict_checked s k w o
-checked-same s k v w more less o = elim (cases_Option (verdict_checked s k v o)) [
-  | inl none ↦ elim (cases_Option (verdict_checked s k w o)) [
-    | inl none' ↦ none ∙ sym none'
-    | inr some ↦ absurd (
-        let bad : None ≡ Some some.0 = sym none ∙ checked-grows s k w v less o some.0 some.1 in cc)
-  ]
-  | inr some ↦ some.1 ∙ sym (checked-grows s k v w more o some.0 some.1)
-]
+checked-same s k v w more less o = same-both (verdict_checked s k v o) (verdict_checked s k w o)
+    (checked-grows s k v w more o) (checked-grows s k w v less o)
 
 -- Other checks
 
@@ -355,25 +316,15 @@ module _ (s : Sources) (k : Checks) (v : Verdicts) (a : Ask) where
       ((q : List ℕ) → IsAmong (finding s a es).asked q → LacksAt q) → (finding s a es).standing ≡ lacks
   none-lacks [] h lack = absurd (let bad : Some Keeps ≡ None = h in cc)
   none-lacks (e ∷ es) h lack =
-      let here : (q : List ℕ) → IsAmong (asks s e) q → LacksAt q =
-      λ q m. lack q (found-first s e (standing s a e) (finding s a es) q m) in
-      elim (cases_Mark (mark s k v e)) [
-        | inl holds ↦ elim (holds-lacks e holds here) [
+      let first = at-first s a LacksAt e es lack in
+      elim (none-by (mark s k v e) (verdict s k v es) h) [
+        | inl later ↦ elim (holds-lacks e later.0 first) [
           | inl l ↦ by-lacks s a e (standing s a e) (finding s a es) l
           | inr t ↦
               by-stands s a e (standing s a e) (finding s a es) t
-              ∙ none-lacks es (sym (verdict-first s k v e Holds (verdict s k v es) holds) ∙ h)
-              (λ q m. lack q (found-later s e (standing s a e) (finding s a es) q t m))
+              ∙ none-lacks es later.1 (at-later s a LacksAt e es lack t)
         ]
-        | inr other ↦ elim other [
-          | inl drops ↦ absurd (
-              let bad : Some Begins ≡ None = sym (verdict-first s k v e Drops (verdict s k v es) drops) ∙ h in cc)
-          | inr more ↦ elim more [
-            | inl unsure ↦ absurd (
-                let bad : Some Either ≡ None = sym (verdict-first s k v e Unsure (verdict s k v es) unsure) ∙ h in cc)
-            | inr waits ↦ by-lacks s a e (standing s a e) (finding s a es) (waits-lacks e waits here)
-          ]
-        ]
+        | inr waits ↦ by-lacks s a e (standing s a e) (finding s a es) (waits-lacks e waits first)
       ]
 
 -- The first entry that drops is the first that fell, where the verdict is that the script is begun
@@ -389,55 +340,41 @@ module _ (s : Sources) (k : Checks) (v : Verdicts) (a : Ask) where
       ((q : List ℕ) → IsAmong (finding s a es).asked q → FitsAt s k v a q) → first_fallen s a es ≡ first_drop s k v es
   begins-first [] h fits = refl
   begins-first (e ∷ es) h fits =
-      let first : (q : List ℕ) → IsAmong (asks s e) q → FitsAt s k v a q =
-      λ q m. fits q (found-first s e (standing s a e) (finding s a es) q m) in
-      elim (cases_Mark (mark s k v e)) [
-        | inl holds ↦
-            let here = holds-stands s k v a e holds first in
+      let first = at-first s a (FitsAt s k v a) e es fits in
+      elim (begins-by (mark s k v e) (verdict s k v es) h) [
+        | inl later ↦
+            let here = holds-stands s k v a e later.0 first in
             first-stands s a e (standing s a e) (first_fallen s a es) here
-            ∙ begins-first es (sym (verdict-first s k v e Holds (verdict s k v es) holds) ∙ h)
-            (λ q m. fits q (found-later s e (standing s a e) (finding s a es) q here m))
-            ∙ sym (drop-holds e (mark s k v e) (first_drop s k v es) holds)
-        | inr other ↦ elim other [
-          | inl drops ↦
-              first-falls s a e (standing s a e) (first_fallen s a es) (drops-falls s k v a e drops first)
-              ∙ sym (drop-drops e (mark s k v e) (first_drop s k v es) drops)
-          | inr more ↦ elim more [
-            | inl unsure ↦ absurd (
-                let bad : Some Either ≡ Some Begins =
-                sym (verdict-first s k v e Unsure (verdict s k v es) unsure) ∙ h in cc)
-            | inr waits ↦ absurd (
-                let bad : None ≡ Some Begins = sym (verdict-first s k v e Waits (verdict s k v es) waits) ∙ h in cc)
-          ]
-        ]
+            ∙ begins-first es later.1 (at-later s a (FitsAt s k v a) e es fits here)
+            ∙ sym (drop-holds e (mark s k v e) (first_drop s k v es) later.0)
+        | inr drops ↦
+            first-falls s a e (standing s a e) (first_fallen s a es) (drops-falls s k v a e drops first)
+            ∙ sym (drop-drops e (mark s k v e) (first_drop s k v es) drops)
       ]
 
 module _ (s : Sources) (k : Checks) (v : Verdicts) where
-  drop-some : (e : BookEntry) (m : Mark) (rest : Option BookEntry) → ((d : BookEntry) × (rest ≡ Some d)) →
+  drop-some : (e : BookEntry) (m : Mark) (rest : Option BookEntry) → (m ≡ Drops) ⊎ ((d : BookEntry) × (rest ≡ Some d)) →
       (d : BookEntry) × (drop_by e m rest ≡ Some d)
-  drop-some e Holds rest some = some
   drop-some e Drops rest some = (e, refl)
-  drop-some e Unsure rest some = some
-  drop-some e Waits rest some = some
+  drop-some e _ rest some = elim some [ inl bad ↦ absurd cc | inr later ↦ later ]
 
   -- some entry drops where the verdict is that the script is begun
   pub begins-drop : (es : List BookEntry) → verdict s k v es ≡ Some Begins →
       (d : BookEntry) × (first_drop s k v es ≡ Some d)
   begins-drop [] h = absurd (let bad : Some Keeps ≡ Some Begins = h in cc)
-  begins-drop (e ∷ es) h = elim (cases_Mark (mark s k v e)) [
-    | inl holds ↦
-        drop-some e (mark s k v e) (first_drop s k v es)
-        (begins-drop es (sym (verdict-first s k v e Holds (verdict s k v es) holds) ∙ h))
-    | inr other ↦ elim other [
-      | inl drops ↦ (e, ap (λ m. drop_by e m (first_drop s k v es)) drops)
-      | inr more ↦ elim more [
-        | inl unsure ↦ absurd (
-            let bad : Some Either ≡ Some Begins = sym (verdict-first s k v e Unsure (verdict s k v es) unsure) ∙ h in cc)
-        | inr waits ↦ absurd (
-            let bad : None ≡ Some Begins = sym (verdict-first s k v e Waits (verdict s k v es) waits) ∙ h in cc)
-      ]
-    ]
-  ]
+  begins-drop (e ∷ es) h = drop-some e (mark s k v e) (first_drop s k v es)
+      (elim (begins-by (mark s k v e) (verdict s k v es) h) [
+        | inl later ↦ inr (begins-drop es later.1)
+        | inr drops ↦ inl drops
+      ])
+
+-- what is begun by its verdict falls in the check
+pub begins-falls : (s : Sources) (k : Checks) (v : Verdicts) (a : Ask) (es : List BookEntry) →
+    verdict s k v es ≡ Some Begins → ((q : List ℕ) → IsAmong (finding s a es).asked q → FitsAt s k v a q) →
+    (finding s a es).standing ≡ falls
+begins-falls s k v a es h fits =
+    let drop = begins-drop s k v es h in
+    first-falls-all s a es drop.0 (begins-first s k v a es h fits ∙ drop.1)
 
 -- Where the verdict is that it may be either, an entry hangs on a script
 
@@ -454,11 +391,10 @@ asked-unsure : (ruled : Bool) (state : State) (o : Option Check) (v : Option Ver
     mark_asked ruled state o v ≡ Unsure →
     ((o ≡ None) × (ruled ≡ true)) ⊎ (((c : Check) × (o ≡ Some c)) × IsOpenVerdict v)
 asked-unsure true state None v e = inl (refl, refl)
-asked-unsure false state None v e = absurd cc
-asked-unsure ruled state (Some c) None e = absurd cc
 asked-unsure ruled state (Some c) (Some Keeps) e = absurd (holds_if-unsure (same_state (state_of c.file) state) e)
 asked-unsure ruled state (Some c) (Some Begins) e = inr ((c, refl), inl refl)
 asked-unsure ruled state (Some c) (Some Either) e = inr ((c, refl), inr refl)
+asked-unsure _ state _ _ e = absurd cc
 
 module _ (s : Sources) (k : Checks) (v : Verdicts) where
   mark-unsure : (e : BookEntry) → mark s k v e ≡ Unsure →
@@ -475,27 +411,19 @@ module _ (s : Sources) (k : Checks) (v : Verdicts) where
   pub either-unsure : (es : List BookEntry) → verdict s k v es ≡ Some Either →
       (q : List ℕ) × IsAmong (flat_map (asks s) es) q × IsUnsureAt s k v q × (q ≡ first_unsure s k v es)
   either-unsure [] h = absurd (let bad : Some Keeps ≡ Some Either = h in cc)
-  either-unsure (e ∷ es) h = elim (cases_Mark (mark s k v e)) [
-    | inl holds ↦
-        let later = either-unsure es (sym (verdict-first s k v e Holds (verdict s k v es) holds) ∙ h) in (
+  either-unsure (e ∷ es) h = elim (either-by (mark s k v e) (verdict s k v es) h) [
+    | inl both ↦
+        let later = either-unsure es both.1 in (
           later.0,
           IsAmong-right (asks s e) (flat_map (asks s) es) later.0 later.1,
           later.2,
-          later.3 ∙ sym (ap (λ m. unsure_by e m (first_unsure s k v es)) holds),
+          later.3 ∙ sym (ap (λ m. unsure_by e m (first_unsure s k v es)) both.0),
         )
-    | inr other ↦ elim other [
-      | inl drops ↦ absurd (
-          let bad : Some Begins ≡ Some Either = sym (verdict-first s k v e Drops (verdict s k v es) drops) ∙ h in cc)
-      | inr more ↦ elim more [
-        | inl unsure ↦
-            let found = mark-unsure e unsure in (
-              found.0,
-              IsAmong-left (asks s e) (flat_map (asks s) es) found.0 found.1,
-              found.2,
-              found.3 ∙ sym (ap (λ m. unsure_by e m (first_unsure s k v es)) unsure),
-            )
-        | inr waits ↦ absurd (
-            let bad : None ≡ Some Either = sym (verdict-first s k v e Waits (verdict s k v es) waits) ∙ h in cc)
-      ]
-    ]
+    | inr unsure ↦
+        let found = mark-unsure e unsure in (
+          found.0,
+          IsAmong-left (asks s e) (flat_map (asks s) es) found.0 found.1,
+          found.2,
+          found.3 ∙ sym (ap (λ m. unsure_by e m (first_unsure s k v es)) unsure),
+        )
   ]
