@@ -1,6 +1,6 @@
 -- What is listed, by the record of a path and its verdict.
 use Rattle.std.proofs.Common.{◌≡◌, ℕ, Bool, true, false, ◌⊎◌, inl, inr, List}
-use Rattle.std.proofs.Common.{Option, Some, None, refl, ap, ◌∙◌}
+use Rattle.std.proofs.Common.{Option, Some, None, refl, sym, ap, subst, ◌∙◌}
 use Rattle.std.specs.Prelude.{option_and_then}
 use Rattle.std.proofs.lemmas.Bool.{cases_Bool}
 use Rattle.redo_record.specs.Paths.{is_among}
@@ -12,7 +12,8 @@ use Rattle.redo_skip.specs.NewBook.{LastRun, check_by, checks_of}
 use Rattle.redo_why.specs.Reasons.{Reason, Altered, Fallen}
 use Rattle.redo_why.specs.Verdicts.{Verdict, Keeps, Begins, Either}
 use Rattle.redo_why.specs.OutOfDate.{Stale, Maybe, Ring, Lost, word_by, word_intact, word_ruled, word_recorded}
-use Rattle.redo_why.specs.OutOfDate.{listed}
+use Rattle.redo_why.specs.OutOfDate.{Word, listed, first_drop, first_unsure, checks_left, verdict_left}
+use Rattle.redo_why.proofs.MarkLemmas.{IsOpenVerdict}
 use Rattle.redo_why.proofs.ReasonLemmas.{check_from}
 use Rattle.redo_skip.proofs.NewBookLemmas.{found-target}
 
@@ -84,44 +85,58 @@ module _ (s : Sources) (last : LastRun) where
 
 -- Of words
 
-pub word-kept : (on : List ℕ) (drop : Option BookEntry) (v : Option Verdict) → word_by on drop v ≡ None → v ≡ Some Keeps
-word-kept on drop None e = absurd cc
-word-kept on drop (Some Keeps) e = refl
-word-kept on drop (Some Begins) e = absurd cc
-word-kept on drop (Some Either) e = absurd cc
+-- what a word tells of the first entry that drops, and of the verdict
+pub data Says (on : List ℕ) (drop : Option BookEntry) (v : Option Verdict) : Option Word → Type 0 where
+  says_kept : v ≡ Some Keeps → Says on drop v None
+  says_ring : v ≡ None → Says on drop v (Some Ring)
+  says_maybe : (q : List ℕ) → q ≡ on → IsOpenVerdict v → drop ≡ None → Says on drop v (Some (Maybe q))
+  says_stale : (d : BookEntry) → IsOpenVerdict v → drop ≡ Some d → Says on drop v (Some (Stale (Fallen d)))
 
-pub word-ring : (on : List ℕ) (drop : Option BookEntry) (v : Option Verdict) → word_by on drop v ≡ Some Ring → v ≡ None
-word-ring on drop None e = refl
-word-ring on drop (Some Keeps) e = absurd cc
-word-ring on None (Some Begins) e = absurd (let bad : Some (Maybe on) ≡ Some Ring = e in cc)
-word-ring on (Some d) (Some Begins) e = absurd (let bad : Some (Stale (Fallen d)) ≡ Some Ring = e in cc)
-word-ring on None (Some Either) e = absurd (let bad : Some (Maybe on) ≡ Some Ring = e in cc)
-word-ring on (Some d) (Some Either) e = absurd (let bad : Some (Stale (Fallen d)) ≡ Some Ring = e in cc)
+pub says : (on : List ℕ) (drop : Option BookEntry) (v : Option Verdict) → Says on drop v (word_by on drop v)
+says on drop None = says_ring refl
+says on drop (Some Keeps) = says_kept refl
+says on None (Some Begins) = says_maybe on refl (inl refl) refl
+says on (Some d) (Some Begins) = says_stale d (inl refl) refl
+says on None (Some Either) = says_maybe on refl (inr refl) refl
+says on (Some d) (Some Either) = says_stale d (inr refl) refl
 
-pub word-lost : (on : List ℕ) (drop : Option BookEntry) (v : Option Verdict) → word_by on drop v ≡ Some Lost → ⊥
-word-lost on drop None e = cc
-word-lost on drop (Some Keeps) e = cc
-word-lost on None (Some Begins) e = let bad : Some (Maybe on) ≡ Some Lost = e in cc
-word-lost on (Some d) (Some Begins) e = let bad : Some (Stale (Fallen d)) ≡ Some Lost = e in cc
-word-lost on None (Some Either) e = let bad : Some (Maybe on) ≡ Some Lost = e in cc
-word-lost on (Some d) (Some Either) e = let bad : Some (Stale (Fallen d)) ≡ Some Lost = e in cc
+module _ (on : List ℕ) (drop : Option BookEntry) (v : Option Verdict) where
+  kept_of : Says on drop v None → v ≡ Some Keeps
+  kept_of (says_kept is) = is
 
-pub word-stale : (on : List ℕ) (drop : Option BookEntry) (v : Option Verdict) (why : Reason) → word_by on drop v ≡ Some (Stale why) →
-    (d : BookEntry) × (drop ≡ Some d) × (why ≡ Fallen d)
-word-stale on drop None why e = absurd cc
-word-stale on drop (Some Keeps) why e = absurd cc
-word-stale on None (Some Begins) why e = absurd (let bad : Some (Maybe on) ≡ Some (Stale why) = e in cc)
-word-stale on (Some d) (Some Begins) why e =
-    let same : Some (Stale (Fallen d)) ≡ Some (Stale why) = e in (d, refl, cc)
-word-stale on None (Some Either) why e = absurd (let bad : Some (Maybe on) ≡ Some (Stale why) = e in cc)
-word-stale on (Some d) (Some Either) why e =
-    let same : Some (Stale (Fallen d)) ≡ Some (Stale why) = e in (d, refl, cc)
+  ring_of : Says on drop v (Some Ring) → v ≡ None
+  ring_of (says_ring is) = is
 
-pub word-maybe : (on : List ℕ) (drop : Option BookEntry) (v : Option Verdict) (q : List ℕ) →
-    word_by on drop v ≡ Some (Maybe q) → (on ≡ q) × (drop ≡ None) × ((v ≡ Some Begins) ⊎ (v ≡ Some Either))
-word-maybe on drop None q e = absurd cc
-word-maybe on drop (Some Keeps) q e = absurd cc
-word-maybe on None (Some Begins) q e = let same : Some (Maybe on) ≡ Some (Maybe q) = e in (cc, refl, inl refl)
-word-maybe on (Some d) (Some Begins) q e = absurd (let bad : Some (Stale (Fallen d)) ≡ Some (Maybe q) = e in cc)
-word-maybe on None (Some Either) q e = let same : Some (Maybe on) ≡ Some (Maybe q) = e in (cc, refl, inr refl)
-word-maybe on (Some d) (Some Either) q e = absurd (let bad : Some (Stale (Fallen d)) ≡ Some (Maybe q) = e in cc)
+  lost_of : Says on drop v (Some Lost) → ⊥
+  lost_of = elim [ ]
+
+  pub word-kept : word_by on drop v ≡ None → v ≡ Some Keeps
+  word-kept e = kept_of (subst (Says on drop v) e (says on drop v))
+
+  pub word-ring : word_by on drop v ≡ Some Ring → v ≡ None
+  word-ring e = ring_of (subst (Says on drop v) e (says on drop v))
+
+  pub word-lost : word_by on drop v ≡ Some Lost → ⊥
+  word-lost e = lost_of (subst (Says on drop v) e (says on drop v))
+
+-- What is listed of a path with a record tells of its rule, its file and its verdict
+
+module _ (s : Sources) (last : LastRun) (p : List ℕ) (r : Record) where
+  abbrev its_drop : Option BookEntry
+  its_drop = first_drop s (checks_left s last) (verdict_left s last) r.entries
+
+  abbrev its_unsure : List ℕ
+  its_unsure = first_unsure s (checks_left s last) (verdict_left s last) r.entries
+
+  pub data Told : Option Word → Type 0 where
+    told_lost : s.has_rule p ≡ false → Told (Some Lost)
+    told_altered : s.has_rule p ≡ true → is_intact last.file r ≡ false → Told (Some (Stale Altered))
+    told_checked : {w : Option Word} → s.has_rule p ≡ true → is_intact last.file r ≡ true →
+        Says its_unsure its_drop (verdict_left s last p) w → Told w
+
+  pub told : s.is_source p ≡ false → record_at last.book p ≡ Some r → (w : Option Word) → listed s last p ≡ w → Told w
+  told target at w is = elim (cases s last p r target at) [
+    | is_lost f e ↦ subst Told (sym e ∙ is) (told_lost f)
+    | is_altered t f e ↦ subst Told (sym e ∙ is) (told_altered t f)
+    | is_checked t i e ↦ subst Told (sym e ∙ is) (told_checked t i (says its_unsure its_drop (verdict_left s last p)))
+  ]

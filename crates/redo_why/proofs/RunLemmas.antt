@@ -25,8 +25,8 @@ use Rattle.redo_why.proofs.DeepLemmas.{alone-same, alone-here, alone-alike, book
 use Rattle.redo_skip.proofs.NeededLemmas.{needed-plain, plain-target}
 use Rattle.redo_why.proofs.HonestLemmas.{honest-kept, honest-dropped, honest-ring, honest-waits, honest-first}
 use Rattle.redo_why.proofs.KeptLemmas.{needed-target, kept, begun, dropped, ring-at, ring-waits, first-end}
-use Rattle.redo_why.proofs.ListedLemmas.{check-intact, check-altered, Cases, is_lost, is_altered, is_checked, cases}
-use Rattle.redo_why.proofs.ListedLemmas.{word-kept, word-ring, word-stale, word-maybe}
+use Rattle.redo_why.proofs.ListedLemmas.{check-intact, check-altered, Told, told_lost, told_altered, told_checked, told}
+use Rattle.redo_why.proofs.ListedLemmas.{says_kept, says_ring, says_maybe, says_stale}
 use Rattle.redo_why.proofs.MarkLemmas.{drop-same, begins-drop, either-unsure, IsUnsureAt, IsOpenVerdict}
 use Rattle.redo_why.proofs.ReasonLemmas.{first-falls-all, reason-altered, reason-recorded}
 use Rattle.redo_why.proofs.StandingLemmas.{begins_checked, is_fallen}
@@ -133,8 +133,8 @@ module _ (s : Sources) (last : LastRun) (request : List (List ℕ)) (limit : ℕ
     target : s.is_source p ≡ false
     target = target-by p needs
 
-    the_cases : Cases s last p r target at
-    the_cases = cases s last p r target at
+    its : (w : Option Word) → listed s last p ≡ w → Told s last p r w
+    its = told s last p r target at
 
     the_file : last.file r.target ≡ last.file p
     the_file = ap last.file (found-target last.book p r at)
@@ -145,15 +145,12 @@ module _ (s : Sources) (last : LastRun) (request : List (List ℕ)) (limit : ℕ
 
     -- what isn't listed is kept
     pub unlisted-kept : listed s last p ≡ None → IsKept s last request limit p
-    unlisted-kept none = elim the_cases [
-      | is_lost f e ↦ absurd (let bad : None ≡ Some Lost = sym none ∙ e in cc)
-      | is_altered t f e ↦ absurd (let bad : None ≡ Some (Stale Altered) = sym none ∙ e in cc)
-      | is_checked t i e ↦
-          let v = word-kept (first_unsure s left (verdict_left s last) r.entries)
-          (first_drop s left (verdict_left s last) r.entries) (verdict_left s last p) (sym e ∙ none) in
-          let all = (in-check t i).keeps v in
-          record { waits = all.0; built = all.1 ∙ ap (λ (f : File). Some (Built f)) the_file }
-    ]
+    unlisted-kept none = unlisted-by (its None none)
+      where
+        unlisted-by : Told s last p r None → IsKept s last request limit p
+        unlisted-by (told_checked t i (says_kept v)) =
+            let all = (in-check t i).keeps v in
+            record { waits = all.0; built = all.1 ∙ ap (λ (f : File). Some (Built f)) the_file }
 
     altered-begun : s.has_rule p ≡ true → is_intact last.file r ≡ false → IsBegunBy s last request limit p
     altered-begun ruled altered = record {
@@ -165,19 +162,12 @@ module _ (s : Sources) (last : LastRun) (request : List (List ℕ)) (limit : ℕ
     -- what is listed as stale is begun, unless it is cyclic
     pub stale-begun : (why : Reason) → listed s last p ≡ Some (Stale why) → (end p ≡ None → ⊥) →
         IsBegunBy s last request limit p
-    stale-begun why stale ended = elim the_cases [
-      | is_lost f e ↦ absurd (let bad : Some (Stale why) ≡ Some Lost = sym stale ∙ e in cc)
-      | is_altered t f e ↦ altered-begun t f
-      | is_checked t i e ↦
-          let found = word-stale (first_unsure s left (verdict_left s last) r.entries)
-          (first_drop s left (verdict_left s last) r.entries) (verdict_left s last p) why
-          (sym e ∙ stale) in
-          record {
-            needed = needed-by p needs;
-            ruled = t;
-            begins = (in-check t i).drops found.0 found.1 ended;
-          }
-    ]
+    stale-begun why stale ended = stale-by why (its (Some (Stale why)) stale)
+      where
+        stale-by : (why : Reason) → Told s last p r (Some (Stale why)) → IsBegunBy s last request limit p
+        stale-by _ (told_altered t f) = altered-begun t f
+        stale-by _ (told_checked t i (says_stale d v drop)) =
+            record { needed = needed-by p needs; ruled = t; begins = (in-check t i).drops d drop ended }
 
     -- what is begun by its verdict is begun, cyclic or not
     begins-begun : s.has_rule p ≡ true → is_intact last.file r ≡ true → verdict_left s last p ≡ Some Begins →
@@ -209,59 +199,37 @@ module _ (s : Sources) (last : LastRun) (request : List (List ℕ)) (limit : ℕ
     -- what is listed as a ring is cyclic, and isn't begun
     pub ring-cyclic : listed s last p ≡ Some Ring →
         (end p ≡ None) × ((rules_with s last request).begins p end ≡ false)
-    ring-cyclic ring = elim the_cases [
-      | is_lost f e ↦ absurd (let bad : Some Ring ≡ Some Lost = sym ring ∙ e in cc)
-      | is_altered t f e ↦ absurd (let bad : Some Ring ≡ Some (Stale Altered) = sym ring ∙ e in cc)
-      | is_checked t i e ↦
-          let v = word-ring (first_unsure s left (verdict_left s last) r.entries)
-          (first_drop s left (verdict_left s last) r.entries) (verdict_left s last p) (sym e ∙ ring) in
-          (in-check t i).rings v
-    ]
-
-    dropped-listed : (on : List ℕ) (drop : Option BookEntry) (v : Option Verdict) → (v ≡ Some Keeps → ⊥) → (v ≡ None → ⊥) →
-        (w : Word) × (word_by on drop v ≡ Some w) × (may_begin w ≡ true)
-    dropped-listed on drop None keeps none = absurd (none refl)
-    dropped-listed on drop (Some Keeps) keeps none = absurd (keeps refl)
-    dropped-listed on None (Some Begins) keeps none = (Maybe on, refl, refl)
-    dropped-listed on (Some d) (Some Begins) keeps none = (Stale (Fallen d), refl, refl)
-    dropped-listed on None (Some Either) keeps none = (Maybe on, refl, refl)
-    dropped-listed on (Some d) (Some Either) keeps none = (Stale (Fallen d), refl, refl)
+    ring-cyclic ring = ring-by (its (Some Ring) ring)
+      where
+        ring-by : Told s last p r (Some Ring) → (end p ≡ None) × ((rules_with s last request).begins p end ≡ false)
+        ring-by (told_checked t i (says_ring v)) = (in-check t i).rings v
 
     -- what is begun was listed
     pub begun-listed : IsBegunBy s last request limit p →
         (w : Word) × (listed s last p ≡ Some w) × (may_begin w ≡ true)
-    begun-listed begun = elim the_cases [
-      | is_lost f e ↦ absurd (both_ways _ f begun.ruled)
-      | is_altered t f e ↦ (Stale Altered, e, refl)
-      | is_checked t i e ↦
-          let found = dropped-listed (first_unsure s left (verdict_left s last) r.entries)
-          (first_drop s left (verdict_left s last) r.entries) (verdict_left s last p)
-          (λ v. both_ways _ ((in-check t i).keeps v).0 begun.begins)
-          (λ v. both_ways _ ((in-check t i).rings v).1 begun.begins) in
-          (found.0, e ∙ found.1, found.2)
-    ]
+    begun-listed begun = begun-by (listed s last p) (its (listed s last p) refl)
+      where
+        begun-by : (w : Option Word) → Told s last p r w → (x : Word) × (w ≡ Some x) × (may_begin x ≡ true)
+        begun-by _ (told_lost f) = absurd (both_ways _ f begun.ruled)
+        begun-by _ (told_altered t f) = (Stale Altered, refl, refl)
+        begun-by _ (told_checked t i (says_kept v)) = absurd (both_ways _ ((in-check t i).keeps v).0 begun.begins)
+        begun-by _ (told_checked t i (says_ring v)) = absurd (both_ways _ ((in-check t i).rings v).1 begun.begins)
+        begun-by _ (told_checked t i (says_maybe q on v none)) = (Maybe q, refl, refl)
+        begun-by _ (told_checked t i (says_stale d v drop)) = (Stale (Fallen d), refl, refl)
 
     -- the reason that is listed is the reason for which the script is begun, where no script is waited for before
     pub stale-reason : (why : Reason) → listed s last p ≡ Some (Stale why) →
         (why ≡ Altered) ⊎ (verdict_left s last p ≡ Some Begins) → reason_of s last request end p ≡ Some why
-    stale-reason why stale how = elim the_cases [
-      | is_lost f e ↦ absurd (let bad : Some (Stale why) ≡ Some Lost = sym stale ∙ e in cc)
-      | is_altered t f e ↦
-          let same : Some (Stale Altered) ≡ Some (Stale why) = sym e ∙ stale in
-          let this : Altered ≡ why = cc in
-          (reason-altered s last request end p).1 (unasked-by p needs, (r, at, f)) ∙ ap (λ (x : Reason). Some x) this
-      | is_checked t i e ↦
-          let found = word-stale (first_unsure s left (verdict_left s last) r.entries)
-          (first_drop s left (verdict_left s last) r.entries) (verdict_left s last p) why
-          (sym e ∙ stale) in
-          elim how [
-            | inl altered ↦ absurd (let bad : Altered ≡ Fallen found.0 = sym altered ∙ found.2 in cc)
-            | inr begins ↦
-                reason-recorded s last request end p r (unasked-by p needs) at i found.0
-                ((in-check t i).first begins ∙ found.1)
-                ∙ ap (λ (x : Reason). Some x) (sym found.2)
-          ]
-    ]
+    stale-reason why stale how = reason-by why (its (Some (Stale why)) stale) how
+      where
+        reason-by : (why : Reason) → Told s last p r (Some (Stale why)) →
+            (why ≡ Altered) ⊎ (verdict_left s last p ≡ Some Begins) → reason_of s last request end p ≡ Some why
+        reason-by _ (told_altered t f) how = (reason-altered s last request end p).1 (unasked-by p needs, (r, at, f))
+        reason-by _ (told_checked t i (says_stale d v drop)) how = elim how [
+          | inl altered ↦ absurd cc
+          | inr begins ↦
+              reason-recorded s last request end p r (unasked-by p needs) at i d ((in-check t i).first begins ∙ drop)
+        ]
 
 -- Of one run
 
@@ -326,44 +294,30 @@ module _ (s : Sources) (last : LastRun) where
   verdict-here p c is =
       sym (ap (verdict_checked s (checks_left s last) (verdict_left s last)) is) ∙ book-still s last [] p
 
-  open-word : (on : List ℕ) (drop : Option BookEntry) (v : Option Verdict) → IsOpenVerdict v →
-      (w : Word) × (word_by on drop v ≡ Some w) × (may_begin w ≡ true)
-  open-word on drop None opens = absurd (elim opens [
-    | inl e ↦ let bad : None ≡ Some Begins = e in cc
-    | inr e ↦ let bad : None ≡ Some Either = e in cc
-  ])
-  open-word on drop (Some Keeps) opens = absurd (elim opens [
-    | inl e ↦ let bad : Some Keeps ≡ Some Begins = e in cc
-    | inr e ↦ let bad : Some Keeps ≡ Some Either = e in cc
-  ])
-  open-word on None (Some Begins) opens = (Maybe on, refl, refl)
-  open-word on (Some d) (Some Begins) opens = (Stale (Fallen d), refl, refl)
-  open-word on None (Some Either) opens = (Maybe on, refl, refl)
-  open-word on (Some d) (Some Either) opens = (Stale (Fallen d), refl, refl)
+  abbrev IsOpenAt : List ℕ → Type 0
+  IsOpenAt q = ((checks_left s last q ≡ None) × (s.has_rule q ≡ true)) ⊎
+      (((c : Check) × (checks_left s last q ≡ Some c)) × IsOpenVerdict (verdict_left s last q))
 
-  open-record : (q : List ℕ) (r : Record) (target : s.is_source q ≡ false) (at : record_at last.book q ≡ Some r) →
-      ((checks_left s last q ≡ None) × (s.has_rule q ≡ true)) ⊎
-      (((c : Check) × (checks_left s last q ≡ Some c)) × IsOpenVerdict (verdict_left s last q)) →
-      (s.has_rule q ≡ true) × ((w : Word) × (listed s last q ≡ Some w) × (may_begin w ≡ true))
-  open-record q r target at why = elim (cases s last q r target at) [
-    | is_lost f e ↦ absurd (elim why [
-      | inl free ↦ both_ways _ f free.1
-      | inr some ↦ both_ways _ f ((are-checks s last []).ruled q some.0.0 some.0.1)
-    ])
-    | is_altered t f e ↦ (t, (Stale Altered, e, refl))
-    | is_checked t i e ↦ (
-      t,
-      elim why [
-        | inl free ↦ absurd (
-            let bad : None ≡ Some (check_by last r) = sym free.0 ∙ check-intact s last [] q r refl at t i in cc)
-        | inr some ↦
-            let word = open-word (first_unsure s (checks_left s last) (verdict_left s last) r.entries)
-            (first_drop s (checks_left s last) (verdict_left s last) r.entries)
-            (verdict_left s last q) some.1 in
-            (word.0, e ∙ word.1, word.2)
-      ],
-    )
+  in-open : (q : List ℕ) (r : Record) → IsOpenAt q → record_at last.book q ≡ Some r → s.has_rule q ≡ true →
+      is_intact last.file r ≡ true → IsOpenVerdict (verdict_left s last q)
+  in-open q r why at t i = elim why [
+    | inl free ↦ absurd (let is = check-intact s last [] q r refl at t i in let none = free.0 in cc)
+    | inr some ↦ some.1
   ]
+
+  open-record : (q : List ℕ) (r : Record) → IsOpenAt q → record_at last.book q ≡ Some r → (w : Option Word) → Told s last q r w →
+      (s.has_rule q ≡ true) × ((x : Word) × (w ≡ Some x) × (may_begin x ≡ true))
+  open-record q r why at _ (told_lost f) = absurd (elim why [
+    | inl free ↦ both_ways _ f free.1
+    | inr some ↦ both_ways _ f ((are-checks s last []).ruled q some.0.0 some.0.1)
+  ])
+  open-record q r why at _ (told_altered t f) = (t, (Stale Altered, refl, refl))
+  open-record q r why at _ (told_checked t i (says_maybe on _ v none)) = (t, (Maybe on, refl, refl))
+  open-record q r why at _ (told_checked t i (says_stale d v drop)) = (t, (Stale (Fallen d), refl, refl))
+  open-record q r why at _ (told_checked t i (says_kept v)) =
+      absurd (elim (in-open q r why at t i) [ inl begins ↦ cc | inr either ↦ cc ])
+  open-record q r why at _ (told_checked t i (says_ring v)) =
+      absurd (elim (in-open q r why at t i) [ inl begins ↦ cc | inr either ↦ cc ])
 
   open-at : (q : List ℕ) → IsUnsureAt s (checks_left s last) (verdict_left s last) q → IsOpen s last q
   open-at q unsure =
@@ -377,30 +331,27 @@ module _ (s : Sources) (last : LastRun) where
           inl none,
         )
         | inr found ↦
-            let both = open-record q found.0 target found.1 unsure.why in
+            let both = open-record q found.0 unsure.why found.1 (listed s last q)
+            (told s last q found.0 target found.1 (listed s last q) refl) in
             (both.0, inr both.1)
       ]
 
   pub maybe-rests : (p : List ℕ) (r : Record) (target : s.is_source p ≡ false) (at : record_at last.book p ≡ Some r) →
       (q : List ℕ) → listed s last p ≡ Some (Maybe q) → IsAmong (named s (checks_left s last p)) q × IsOpen s last q
-  maybe-rests p r target at q maybe = elim (cases s last p r target at) [
-    | is_lost f e ↦ absurd (let bad : Some (Maybe q) ≡ Some Lost = sym maybe ∙ e in cc)
-    | is_altered t f e ↦ absurd (let bad : Some (Maybe q) ≡ Some (Stale Altered) = sym maybe ∙ e in cc)
-    | is_checked t i e ↦
-        let is = check-intact s last [] p r refl at t i in
-        let here = verdict-here p (check_by last r) is in
-        let found = word-maybe (first_unsure s (checks_left s last) (verdict_left s last) r.entries)
-        (first_drop s (checks_left s last) (verdict_left s last) r.entries)
-        (verdict_left s last p) q (sym e ∙ maybe) in
-        elim found.2 [
-          | inl begins ↦ absurd (
-              let some = begins-drop s (checks_left s last) (verdict_left s last) r.entries (here ∙ begins) in
-              let bad : None ≡ Some some.0 = sym found.1 ∙ some.1 in cc)
-          | inr either ↦
-              let some = either-unsure s (checks_left s last) (verdict_left s last) r.entries (here ∙ either) in
-              let P : Option Check → Type 0 = λ o. IsAmong (named s o) some.0 in
-              let this : some.0 ≡ q = some.3 ∙ found.0 in
-              let Q : List ℕ → Type 0 = λ x. IsAmong (named s (checks_left s last p)) x × IsOpen s last x in
-              subst Q this (subst P (sym is) some.1, open-at some.0 some.2)
-        ]
-  ]
+  maybe-rests p r target at q maybe = rests-by q (told s last p r target at (Some (Maybe q)) maybe)
+    where
+      rests-by : (q : List ℕ) → Told s last p r (Some (Maybe q)) →
+          IsAmong (named s (checks_left s last p)) q × IsOpen s last q
+      rests-by _ (told_checked t i (says_maybe q on v none)) =
+          let is = check-intact s last [] p r refl at t i in
+          let here = verdict-here p (check_by last r) is in
+          elim v [
+            | inl begins ↦ absurd (
+                let some = begins-drop s (checks_left s last) (verdict_left s last) r.entries (here ∙ begins) in
+                let drop = some.1 in cc)
+            | inr either ↦
+                let some = either-unsure s (checks_left s last) (verdict_left s last) r.entries (here ∙ either) in
+                let P : Option Check → Type 0 = λ o. IsAmong (named s o) some.0 in
+                let Q : List ℕ → Type 0 = λ x. IsAmong (named s (checks_left s last p)) x × IsOpen s last x in
+                subst Q (some.3 ∙ sym on) (subst P (sym is) some.1, open-at some.0 some.2)
+          ]
