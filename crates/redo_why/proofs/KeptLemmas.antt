@@ -9,7 +9,7 @@ use Rattle.redo_record.specs.Progress.{operands}
 use Rattle.redo_book.specs.declared.book.BookEntry.{BookEntry}
 use Rattle.redo_build.specs.Rules.{Ask, AreLawful, Rules}
 use Rattle.redo_build.specs.Outcomes.{outcome_at, needed_at, IsSettled}
-use Rattle.redo_build.proofs.DepthLemmas.{cases_Option, deeper, outcome_at-step, outcome_at-zero, reached-target, settled}
+use Rattle.redo_build.proofs.DepthLemmas.{cases_Option, deeper, deeper_once, outcome_at-step, outcome_at-zero, reached-target, settled}
 use Rattle.redo_skip.specs.Sources.{Sources, without_book}
 use Rattle.redo_skip.specs.Checks.{file_told, told, Standing, stands, lacks, falls, finding, Check, Checks}
 use Rattle.redo_skip.specs.Checks.{progress_checked, progress_found, with_book, AreChecks}
@@ -22,7 +22,43 @@ use Rattle.redo_why.specs.OutOfDate.{first_drop}
 use Rattle.redo_why.specs.Reasons.{first_fallen}
 use Rattle.redo_why.proofs.MarkLemmas.{FitsAt, keeps-stands, begins-falls, drop-refutes, none-lacks}
 use Rattle.redo_why.proofs.MarkLemmas.{begins-first}
-use Rattle.redo_why.proofs.StandingLemmas.{begins_checked, is_fallen}
+use Rattle.redo_skip.proofs.CheckLemmas.{begins_checked, is_fallen}
+
+-- what the verdict on a target in check, and the first of its entries that drops, tell of a run
+pub record Tells (s : Sources) (k : Checks) (end : Ask) (p : List ℕ) (c : Check) (v : Option Verdict)
+    (drop : Option BookEntry) : Type 0 where
+  pub keeps : v ≡ Some Keeps → ((with_book s k).begins p end ≡ false) × (end p ≡ Some (Built c.file))
+  pub begins : v ≡ Some Begins → (with_book s k).begins p end ≡ true
+  pub first : v ≡ Some Begins → first_fallen s end c.entries ≡ drop
+  pub drops : (d : BookEntry) → drop ≡ Some d → (end p ≡ None → ⊥) → (with_book s k).begins p end ≡ true
+  pub rings : v ≡ None → (end p ≡ None) × ((with_book s k).begins p end ≡ false)
+
+-- the answers of a run fit these verdicts, which may be by other checks
+pub record IsFitting (s : Sources) (k l : Checks) (v : Verdicts) (end : Ask) (p : List ℕ) (c : Check) : Type 0 where
+  pub check : k p ≡ Some c
+  pub fixed : verdict s l v c.entries ≡ v p
+  pub fits : (q : List ℕ) → IsAmong (finding s end c.entries).asked q → FitsAt s l v end q
+  pub built : v p ≡ Some Keeps → end p ≡ Some (Built c.file)
+  pub waits : (finding s end c.entries).standing ≡ lacks → end p ≡ None
+  pub ring : v p ≡ None → (end p ≡ None) × ((finding s end c.entries).standing ≡ lacks)
+
+module _ (s : Sources) (k l : Checks) (v : Verdicts) (end : Ask) (p : List ℕ) (c : Check)
+    (is : IsFitting s k l v end p c) where
+  begins-by : (x : Standing) → (finding s end c.entries).standing ≡ x → (with_book s k).begins p end ≡ is_fallen x
+  begins-by x e = ap (λ o. begins_checked s o end) is.check ∙ ap is_fallen e
+
+  -- what is begun by its verdict is begun; so is what has an entry that drops, unless it is cyclic
+  pub tells : Tells s k end p c (v p) (first_drop s l v c.entries)
+  tells = record {
+    keeps = λ e. (begins-by stands (keeps-stands s l v end c.entries (is.fixed ∙ e) is.fits), is.built e);
+    begins = λ e. begins-by falls (begins-falls s l v end c.entries (is.fixed ∙ e) is.fits);
+    first = λ e. begins-first s l v end c.entries (is.fixed ∙ e) is.fits;
+    drops = λ d drop ended. elim (cases_Standing (finding s end c.entries).standing) [
+      | inl t ↦ absurd (drop-refutes s l v end c.entries d drop t is.fits)
+      | inr other ↦ elim other [ inl lack ↦ absurd (ended (is.waits lack)) | inr f ↦ begins-by falls f ]
+    ];
+    rings = λ e. ((is.ring e).0, begins-by lacks (is.ring e).1);
+  }
 
 module _ (s : Sources) (k : Checks) (lawful : AreLawful (without_book s)) (are : AreChecks s k) (good : IsGood s) where
   abbrev booked : Rules
@@ -73,6 +109,18 @@ module _ (s : Sources) (k : Checks) (lawful : AreLawful (without_book s)) (are :
       ∙ progress-stands c.file (finding s (outcome_at booked (suc n)) c.entries) (s.progress q (outcome_at booked (suc n)))
       all
 
+  -- what waits in its check has no answer
+  pub lacks-none : (n : ℕ) (p : List ℕ) (c : Check) → s.is_source p ≡ false → k p ≡ Some c →
+      (finding s (outcome_at booked n) c.entries).standing ≡ lacks → outcome_at booked n p ≡ None
+  lacks-none n p c target is l = elim (cases_Option (outcome_at booked n p)) [
+    | inl none ↦ none
+    | inr some ↦
+        let next = deeper_once booked booked-lawful n p some.0 target some.1 in
+        let step = step-of n p (Some c) target is
+        ∙ progress-lacks c.file (finding s (outcome_at booked n) c.entries) (s.progress p (outcome_at booked n)) l in
+        absurd (let bad : None ≡ Some some.0 = sym step ∙ next in cc)
+  ]
+
   module _ (request : List (List ℕ)) (limit : ℕ) (few : length (needed_at booked request limit) ≤ limit) where
     abbrev final : Ask
     final = outcome_at booked limit
@@ -111,59 +159,6 @@ module _ (s : Sources) (k : Checks) (lawful : AreLawful (without_book s)) (are :
         still.closed limit p q needed (subst P (sym is)
         (asked-check s.is_source c.file (finding s final c.entries) (s.progress p final) q
         (finding-target s c.entries final q m) m))
-
-    begins-by : (p : List ℕ) (c : Check) (v : Standing) → k p ≡ Some c → (finding s final c.entries).standing ≡ v →
-        booked.begins p final ≡ is_fallen v
-    begins-by p c v is e = ap (λ o. begins_checked s o final) is ∙ ap is_fallen e
-
-    end-step : (p : List ℕ) (c : Check) → IsNeeded p → k p ≡ Some c →
-        final p ≡ (progress_found c.file (finding s final c.entries) (s.progress p final)).outcome
-    end-step p c needed is =
-        sym (still.same (suc limit) p (omega arith) needed) ∙ step-of limit p (Some c) (needed-target p needed) is
-
-    -- a needed target that is kept by its verdict is kept
-    pub kept : (n : ℕ) (p : List ℕ) (c : Check) → IsNeeded p → k p ≡ Some c → verdict_at s k n p ≡ Some Keeps →
-        (booked.begins p final ≡ false) × (final p ≡ Some (Built c.file))
-    kept zero p c needed is keeps = absurd (let bad : None ≡ Some Keeps = keeps in cc)
-    kept (suc n) p c needed is keeps =
-        let all = keeps-stands s k (verdict_at s k n) final c.entries
-        (verdict-of (verdict_at s k n) p c (Some Keeps) is keeps)
-        (λ q m. fits-end n q (asked-needed p c needed is q m)) in (
-          begins-by p c stands is all,
-          to-limit (suc (suc n)) p (Built c.file) needed
-              (kept-at (suc n) p c (needed-target p needed) is keeps),
-        )
-
-    -- one that is begun by its verdict is begun
-    pub begun : (n : ℕ) (p : List ℕ) (c : Check) → IsNeeded p → k p ≡ Some c → verdict_at s k n p ≡ Some Begins →
-        booked.begins p final ≡ true
-    begun zero p c needed is begins = absurd (let bad : None ≡ Some Begins = begins in cc)
-    begun (suc n) p c needed is begins =
-        let fell = begins-falls s k (verdict_at s k n) final c.entries
-        (verdict-of (verdict_at s k n) p c (Some Begins) is begins)
-        (λ q m. fits-end n q (asked-needed p c needed is q m)) in
-        begins-by p c falls is fell
-
-    -- one of whose entries one drops is begun, unless it is cyclic
-    pub dropped : (n : ℕ) (p : List ℕ) (c : Check) (d : BookEntry) → IsNeeded p → k p ≡ Some c →
-        first_drop s k (verdict_at s k n) c.entries ≡ Some d → (final p ≡ None → ⊥) → booked.begins p final ≡ true
-    dropped n p c d needed is drops ended = elim (cases_Standing (finding s final c.entries).standing) [
-      | inl t ↦ absurd (drop-refutes s k (verdict_at s k n) final c.entries d drops t
-          (λ q m. fits-end n q (asked-needed p c needed is q m)))
-      | inr other ↦ elim other [
-        | inl l ↦ absurd (ended (end-step p c needed is
-            ∙ progress-lacks c.file (finding s final c.entries) (s.progress p final) l))
-        | inr f ↦ begins-by p c falls is f
-      ]
-    ]
-
-    -- the entry that is told of what is begun by its verdict is the first that fell
-    pub first-end : (n : ℕ) (p : List ℕ) (c : Check) → IsNeeded p → k p ≡ Some c →
-        verdict_at s k (suc n) p ≡ Some Begins →
-        first_fallen s final c.entries ≡ first_drop s k (verdict_at s k n) c.entries
-    first-end n p c needed is begins = begins-first s k (verdict_at s k n) final c.entries
-        (verdict-of (verdict_at s k n) p c (Some Begins) is begins)
-        (λ q m. fits-end n q (asked-needed p c needed is q m))
 
   -- Rings
 
@@ -207,9 +202,22 @@ module _ (s : Sources) (k : Checks) (lawful : AreLawful (without_book s)) (are :
         step-of m q (Some c) target is
         ∙ progress-lacks c.file (finding s (outcome_at booked m) c.entries) (s.progress q (outcome_at booked m)) l
 
-    -- and isn't begun
-    pub ring-waits : (m : ℕ) (q : List ℕ) (c : Check) → s.is_source q ≡ false → k q ≡ Some c →
-        verdict_at s k deep q ≡ None → booked.begins q (outcome_at booked m) ≡ false
-    ring-waits m q c target is waits =
-        ap (λ o. begins_checked s o (outcome_at booked m)) is
-        ∙ ap is_fallen (waiting m q c target is waits (λ x c' t e v. ring-at m x c' t e v))
+    -- as its check waits
+    pub ring-lacks : (m : ℕ) (q : List ℕ) (c : Check) → s.is_source q ≡ false → k q ≡ Some c →
+        verdict_at s k deep q ≡ None → (finding s (outcome_at booked m) c.entries).standing ≡ lacks
+    ring-lacks m q c target is waits = waiting m q c target is waits (λ x c' t e v. ring-at m x c' t e v)
+
+    -- the verdicts of a run tell of it
+    pub tells-own : (request : List (List ℕ)) (limit : ℕ) → length (needed_at booked request limit) ≤ limit →
+        (p : List ℕ) (c : Check) → IsAmong (needed_at booked request limit) p → k p ≡ Some c →
+        Tells s k (outcome_at booked limit) p c (verdict_at s k deep p) (first_drop s k (verdict_at s k deep) c.entries)
+    tells-own request limit few p c needed is =
+        let target = needed-target request limit few p needed in
+        tells s k k (verdict_at s k deep) (outcome_at booked limit) p c (record {
+          check = is;
+          fixed = verdict-of (verdict_at s k deep) p c (verdict_at s k deep p) is (same p);
+          fits = λ q m. fits-end request limit few deep q (asked-needed request limit few p c needed is q m);
+          built = λ e. (fits-end request limit few deep p needed).kept c is e;
+          waits = λ l. lacks-none limit p c target is l;
+          ring = λ e. (ring-at limit p c target is e, ring-lacks limit p c target is e);
+        })

@@ -16,7 +16,7 @@ use Rattle.redo_skip.specs.NewBook.{LastRun, is_valid, check_by, checks_of}
 use Rattle.redo_skip.proofs.CheckLemmas.{cases_Standing, finding-stays, found-first, found-later, standing-same}
 use Rattle.redo_why.specs.Reasons.{Reason, Requested, Unrecorded, Altered, Fallen, first_by, first_fallen}
 use Rattle.redo_why.specs.Reasons.{reason_fallen, reason_recorded, reason_of, IsFirstFallen}
-use Rattle.redo_why.proofs.StandingLemmas.{begins_checked, is_fallen}
+use Rattle.redo_skip.proofs.CheckLemmas.{begins_checked, is_fallen}
 use Rattle.redo_skip.proofs.NewBookLemmas.{found-target}
 
 -- Of entries

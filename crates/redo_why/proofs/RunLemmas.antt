@@ -23,13 +23,13 @@ use Rattle.redo_why.specs.Runs.{rules_with, end_with, IsNeededBy, NeedsAlone, Ne
 use Rattle.redo_why.specs.Runs.{IsRecordInCheck, verdict_with}
 use Rattle.redo_why.proofs.DeepLemmas.{alone-same, alone-here, alone-alike, book-still}
 use Rattle.redo_skip.proofs.NeededLemmas.{needed-plain, plain-target}
-use Rattle.redo_why.proofs.HonestLemmas.{honest-kept, honest-dropped, honest-ring, honest-waits, honest-first}
-use Rattle.redo_why.proofs.KeptLemmas.{needed-target, kept, begun, dropped, ring-at, ring-waits, first-end}
+use Rattle.redo_why.proofs.HonestLemmas.{tells-honest}
+use Rattle.redo_why.proofs.KeptLemmas.{Tells, needed-target, tells-own}
 use Rattle.redo_why.proofs.ListedLemmas.{check-intact, check-altered, Told, told_lost, told_altered, told_checked, told}
 use Rattle.redo_why.proofs.ListedLemmas.{says_kept, says_ring, says_maybe, says_stale}
 use Rattle.redo_why.proofs.MarkLemmas.{drop-same, begins-drop, either-unsure, IsUnsureAt, IsOpenVerdict}
 use Rattle.redo_why.proofs.ReasonLemmas.{first-falls-all, reason-altered, reason-recorded}
-use Rattle.redo_why.proofs.StandingLemmas.{begins_checked, is_fallen}
+use Rattle.redo_skip.proofs.CheckLemmas.{begins_checked, is_fallen}
 
 module _ (s : Sources) (last : LastRun) (request : List (List ℕ)) (limit : ℕ) (lawful : AreLawful (without_book s))
     (good : IsGood s) where
@@ -48,70 +48,30 @@ module _ (s : Sources) (last : LastRun) (request : List (List ℕ)) (limit : ℕ
   are : AreChecks s checks
   are = are-checks s last request
 
-  -- what verdicts tell of a run, of a target in check
-  record Tells (p : List ℕ) (c : Check) : Type 0 where
-    target : s.is_source p ≡ false
-    unasked : is_among request p ≡ false
-    keeps : verdict_left s last p ≡ Some Keeps →
-        ((rules_with s last request).begins p end ≡ false) × (end p ≡ Some (Built c.file))
-    drops : (d : BookEntry) → first_drop s left (verdict_left s last) c.entries ≡ Some d → (end p ≡ None → ⊥) →
-        (rules_with s last request).begins p end ≡ true
-    rings : verdict_left s last p ≡ None →
-        (end p ≡ None) × ((rules_with s last request).begins p end ≡ false)
-    first : verdict_left s last p ≡ Some Begins →
-        first_fallen s end c.entries ≡ first_drop s left (verdict_left s last) c.entries
+  -- what verdicts tell of such a run
+  abbrev TellsOf : List ℕ → Check → Type 0
+  TellsOf p c = Tells s checks end p c (verdict_left s last p) (first_drop s left (verdict_left s last) c.entries)
 
   tells-alone : (p : List ℕ) (c : Check) → left p ≡ Some c → checks p ≡ Some c →
-      NeedsAlone s last request limit p → Tells p c
+      NeedsAlone s last request limit p → TellsOf p c
   tells-alone p c is here needs =
-      let target = needed-target s checks lawful are good request limit needs.few p needs.needed in
-      let same = alone-same s last request deep p needs.alone in
       let alike = λ (q : List ℕ) (m : IsAmong (flat_map (asks s) c.entries) q).
       let P : Option Check → Type 0 = λ o. IsAmong (named s o) q in
       alone-alike s last request deep p q needs.alone (subst P (sym is) m) in
       let drop = drop-same s left checks (verdict_left s last) (verdict_at s checks deep) c.entries alike in
-      record {
-        target = target;
-        unasked = alone-here s last request p needs.alone;
-        keeps = λ v. kept s checks lawful are good request limit needs.few deep p c needs.needed here (sym same ∙ v);
-        drops = λ d e ended.
-            dropped s checks lawful are good request limit needs.few deep p c d needs.needed here (sym drop ∙ e) ended;
-        rings = λ v. (
-          ring-at s checks lawful are good deep (book-still s last request) limit p c target here (sym same ∙ v),
-          ring-waits s checks lawful are good deep (book-still s last request) limit p c target here (sym same ∙ v),
-        );
-        first = λ v.
-            first-end s checks lawful are good request limit needs.few deep p c needs.needed here
-            (book-still s last request p ∙ sym same ∙ v)
-            ∙ sym drop;
-      }
+      let own = tells-own s checks lawful are good deep (book-still s last request) request limit needs.few p c needs.needed here in
+      let P : Option Verdict → Type 0 =
+      λ v. Tells s checks end p c v (first_drop s left (verdict_left s last) c.entries) in
+      subst P (sym (alone-same s last request deep p needs.alone))
+      (subst (λ d. Tells s checks end p c (verdict_at s checks deep p) d) (sym drop) own)
 
-  tells-honest : (p : List ℕ) (c : Check) → left p ≡ Some c → checks p ≡ Some c →
-      NeedsHonest s last request limit p → Tells p c
-  tells-honest p c is here needs =
-      let honest = honest-checks s last request (outcome_at (without_book s) limit) needs.honest in
-      let needed = needed-plain s checks lawful are request limit needs.few honest p needs.needed in
-      record {
-        target = plain-target s checks lawful are request limit needs.few honest p needed;
-        unasked = needs.unasked;
-        keeps = λ v.
-            honest-kept s last request limit lawful good needs.few needs.honest deep p c needed is here v;
-        drops = λ d e ended.
-            honest-dropped s last request limit lawful good needs.few needs.honest deep p c d needed here e ended;
-        rings = λ v. (
-          honest-ring s last request limit lawful good needs.few needs.honest deep (book-still s last []) p c needed is v,
-          honest-waits s last request limit lawful good needs.few needs.honest deep (book-still s last []) p c needed is
-              here v,
-        );
-        first = λ v.
-            honest-first s last request limit lawful good needs.few needs.honest deep p c needed is here
-            (book-still s last [] p ∙ v);
-      }
-
-  tells : (p : List ℕ) (c : Check) → left p ≡ Some c → checks p ≡ Some c → Needs s last request limit p → Tells p c
-  tells p c is here needs = elim needs [
+  tells-by : (p : List ℕ) (c : Check) → left p ≡ Some c → checks p ≡ Some c → Needs s last request limit p → TellsOf p c
+  tells-by p c is here needs = elim needs [
     | inl alone ↦ tells-alone p c is here alone
-    | inr honest ↦ tells-honest p c is here honest
+    | inr honest ↦
+        let all = honest-checks s last request (outcome_at (without_book s) limit) honest.honest in
+        tells-honest s last request limit lawful good honest.few honest.honest deep (book-still s last []) p c
+        (needed-plain s checks lawful are request limit honest.few all p honest.needed) is here
   ]
 
   needed-by : (p : List ℕ) → Needs s last request limit p → IsNeededBy s last request limit p
@@ -139,8 +99,8 @@ module _ (s : Sources) (last : LastRun) (request : List (List ℕ)) (limit : ℕ
     the_file : last.file r.target ≡ last.file p
     the_file = ap last.file (found-target last.book p r at)
 
-    in-check : s.has_rule p ≡ true → is_intact last.file r ≡ true → Tells p (check_by last r)
-    in-check ruled intact = tells p (check_by last r) (check-intact s last [] p r refl at ruled intact)
+    in-check : s.has_rule p ≡ true → is_intact last.file r ≡ true → TellsOf p (check_by last r)
+    in-check ruled intact = tells-by p (check_by last r) (check-intact s last [] p r refl at ruled intact)
         (check-intact s last request p r (unasked-by p needs) at ruled intact) needs
 
     -- what isn't listed is kept
@@ -173,18 +133,7 @@ module _ (s : Sources) (last : LastRun) (request : List (List ℕ)) (limit : ℕ
     begins-begun : s.has_rule p ≡ true → is_intact last.file r ≡ true → verdict_left s last p ≡ Some Begins →
         IsBegunBy s last request limit p
     begins-begun ruled intact v =
-        let is = check-intact s last [] p r refl at ruled intact in
-        let here : verdict s left (verdict_left s last) r.entries ≡ Some Begins =
-        sym (ap (verdict_checked s left (verdict_left s last)) is) ∙ book-still s last [] p ∙ v in
-        let drop = begins-drop s left (verdict_left s last) r.entries here in
-        let fell = first-falls-all s end r.entries drop.0 ((in-check ruled intact).first v ∙ drop.1) in
-        record {
-          needed = needed-by p needs;
-          ruled = ruled;
-          begins =
-              ap (λ o. begins_checked s o end) (check-intact s last request p r (unasked-by p needs) at ruled intact)
-              ∙ ap is_fallen fell;
-        }
+        record { needed = needed-by p needs; ruled = ruled; begins = (in-check ruled intact).begins v }
 
     pub sure-begun : s.has_rule p ≡ true → (is_intact last.file r ≡ false) ⊎ (verdict_left s last p ≡ Some Begins) →
         IsBegunBy s last request limit p
@@ -245,9 +194,14 @@ module _ (s : Sources) (last : LastRun) (request : List (List ℕ)) (limit : ℕ
   its-check : own p ≡ Some (check_by last r)
   its-check = check-intact s last request p r in_check.unasked in_check.at in_check.ruled in_check.intact
 
+  its-tells : Tells s own (end_with s last request limit) p (check_by last r) (verdict_with s last request p)
+      (first_drop s own (verdict_with s last request) r.entries)
+  its-tells = tells-own s own lawful are-own good (length last.book) (book-still s last request) request limit few p
+      (check_by last r) needed its-check
+
   pub run-keeps : verdict_with s last request p ≡ Some Keeps → IsKept s last request limit p
   run-keeps v =
-      let all = kept s own lawful are-own good request limit few (length last.book) p (check_by last r) needed its-check v in
+      let all = its-tells.keeps v in
       record {
         waits = all.0;
         built = all.1 ∙ ap (λ (f : File). Some (Built f)) (ap last.file (found-target last.book p r in_check.at));
@@ -259,32 +213,19 @@ module _ (s : Sources) (last : LastRun) (request : List (List ℕ)) (limit : ℕ
   run-begins v =
       let here : verdict s own (verdict_with s last request) r.entries ≡ Some Begins =
       sym (ap (verdict_checked s own (verdict_with s last request)) its-check) ∙ book-still s last request p ∙ v in
-      let drop = begins-drop s own (verdict_with s last request) r.entries here in
-      let first = first-end s own lawful are-own good request limit few (length last.book) p (check_by last r) needed
-      its-check (book-still s last request p ∙ v) in (
-        record {
-          needed = needed;
-          ruled = in_check.ruled;
-          begins = begun s own lawful are-own good request limit few (length last.book) p (check_by last r) needed
-              its-check v;
-        },
+      let drop = begins-drop s own (verdict_with s last request) r.entries here in (
+        record { needed = needed; ruled = in_check.ruled; begins = its-tells.begins v },
         (
           drop.0,
           drop.1,
           reason-recorded s last request (end_with s last request limit) p r in_check.unasked in_check.at
-              in_check.intact drop.0 (first ∙ drop.1),
+              in_check.intact drop.0 (its-tells.first v ∙ drop.1),
         ),
       )
 
   pub run-waits : verdict_with s last request p ≡ None → (end_with s last request limit p ≡ None) ×
       ((rules_with s last request).begins p (end_with s last request limit) ≡ false)
-  run-waits v =
-      let target = needed-target s own lawful are-own good request limit few p needed in (
-        ring-at s own lawful are-own good (length last.book) (book-still s last request) limit p (check_by last r)
-            target its-check v,
-        ring-waits s own lawful are-own good (length last.book) (book-still s last request) limit p (check_by last r)
-            target its-check v,
-      )
+  run-waits v = its-tells.rings v
 
 -- What may be rests on what is begun, or may be
 
