@@ -1,6 +1,6 @@
 -- One reason for each script that is begun, and which.
-use Rattle.std.proofs.Common.{◌≡◌, ◌↔◌, ℕ, Bool, true, false, not, ◌&&◌, cond, inl, inr, List, [], ◌∷◌, ◌++◌}
-use Rattle.std.proofs.Common.{Option, Some, None, refl, sym, ap, ◌∙◌}
+use Rattle.std.proofs.Common.{◌≡◌, ◌↔◌, ℕ, Bool, true, false, not, ◌&&◌, cond, ◌⊎◌, inl, inr, List, [], ◌∷◌, ◌++◌}
+use Rattle.std.proofs.Common.{Option, Some, None, refl, sym, ap, subst, ◌∙◌}
 use Rattle.std.specs.Prelude.{option_and_then}
 use Rattle.std.specs.List.{AllByRecursion}
 use Rattle.std.proofs.lemmas.Bool.{cases_Bool}
@@ -40,6 +40,12 @@ module _ (s : Sources) (a : Ask) where
   pub by-lacks : (e : BookEntry) (v : Standing) (rest : Finding) → v ≡ lacks → (found_by s e v rest).standing ≡ lacks
   by-lacks e v rest t = rw t refl
 
+  first-from : (e : BookEntry) (v : Standing) (rest : Option BookEntry) (d : BookEntry) → first_by e v rest ≡ Some d →
+      ((v ≡ stands) × (rest ≡ Some d)) ⊎ ((v ≡ falls) × (e ≡ d))
+  first-from e stands rest d is = inl (refl, is)
+  first-from e lacks rest d is = absurd cc
+  first-from e falls rest d is = inr (refl, cc)
+
   -- some entry is the first that fell where the check falls
   pub falls-first : (es : List BookEntry) → (finding s a es).standing ≡ falls →
       (e : BookEntry) × (first_fallen s a es ≡ Some e)
@@ -57,30 +63,23 @@ module _ (s : Sources) (a : Ask) where
 
   pub first-is : (es : List BookEntry) (e : BookEntry) → first_fallen s a es ≡ Some e → IsFirstFallen s a es e
   first-is [] e is = absurd cc
-  first-is (x ∷ es) e is = elim (cases_Standing (standing s a x)) [
-    | inl t ↦
-        let later = first-is es e (sym (first-stands x (standing s a x) (first_fallen s a es) t) ∙ is) in
+  first-is (x ∷ es) e is = elim (first-from x (standing s a x) (first_fallen s a es) e is) [
+    | inl both ↦
+        let later = first-is es e both.1 in
         record {
           before = x ∷ later.before;
           after = later.after;
           whole = ap (λ (xs : List BookEntry). x ∷ xs) later.whole;
-          stood = (t, later.stood);
+          stood = (both.0, later.stood);
           fell = later.fell;
         }
-    | inr other ↦ elim other [
-      | inl l ↦ absurd (
-          let bad : None ≡ Some e = sym (first-lacks x (standing s a x) (first_fallen s a es) l) ∙ is in cc)
-      | inr d ↦
-          let here : Some x ≡ Some e = sym (first-falls x (standing s a x) (first_fallen s a es) d) ∙ is in
-          let same : x ≡ e = cc in
-          record {
-            before = [];
-            after = es;
-            whole = ap (λ (y : BookEntry). y ∷ es) same;
-            stood = tt;
-            fell = ap (standing s a) (sym same) ∙ d;
-          }
-    ]
+    | inr here ↦ record {
+      before = [];
+      after = es;
+      whole = ap (λ (y : BookEntry). y ∷ es) here.1;
+      stood = tt;
+      fell = ap (standing s a) (sym here.1) ∙ here.0;
+    }
   ]
 
   is-first-in : (before after : List BookEntry) (e : BookEntry) →
@@ -94,19 +93,13 @@ module _ (s : Sources) (a : Ask) where
   pub is-first : (es : List BookEntry) (e : BookEntry) → IsFirstFallen s a es e → first_fallen s a es ≡ Some e
   is-first es e is = ap (first_fallen s a) is.whole ∙ is-first-in is.before is.after e is.stood is.fell
 
-  falls-in : (before after : List BookEntry) (e : BookEntry) →
-      AllByRecursion (λ x. standing s a x ≡ stands) before → standing s a e ≡ falls →
-      (finding s a (before ++ e ∷ after)).standing ≡ falls
-  falls-in [] after e stood fell = by-falls e (standing s a e) (finding s a after) fell
-  falls-in (x ∷ xs) after e stood fell =
-      by-stands x (standing s a x) (finding s a (xs ++ e ∷ after)) stood.0 ∙ falls-in xs after e stood.1 fell
-
   pub first-falls-all : (es : List BookEntry) (e : BookEntry) → first_fallen s a es ≡ Some e →
       (finding s a es).standing ≡ falls
-  first-falls-all es e is =
-      let first = first-is es e is in
-      ap (λ (xs : List BookEntry). (finding s a xs).standing) first.whole
-      ∙ falls-in first.before first.after e first.stood first.fell
+  first-falls-all [] e is = absurd cc
+  first-falls-all (x ∷ es) e is = elim (first-from x (standing s a x) (first_fallen s a es) e is) [
+    | inl both ↦ by-stands x (standing s a x) (finding s a es) both.0 ∙ first-falls-all es e both.1
+    | inr here ↦ by-falls x (standing s a x) (finding s a es) here.0
+  ]
 
 -- Under more answers
 
@@ -125,19 +118,13 @@ standing-stays s e a b more goes =
 pub first-stays : (s : Sources) (es : List BookEntry) (e : BookEntry) (a b : Ask) → Extends (without_book s) a b →
     first_fallen s a es ≡ Some e → first_fallen s b es ≡ Some e
 first-stays s [] e a b more is = absurd cc
-first-stays s (x ∷ es) e a b more is = elim (cases_Standing (standing s a x)) [
-  | inl t ↦
-      let there = standing-stays s x a b more (λ l. let bad : stands ≡ lacks = sym t ∙ l in cc) ∙ t in
-      let later = sym (first-stands s a x (standing s a x) (first_fallen s a es) t) ∙ is in
-      first-stands s b x (standing s b x) (first_fallen s b es) there ∙ first-stays s es e a b more later
-  | inr other ↦ elim other [
-    | inl l ↦ absurd (
-        let bad : None ≡ Some e = sym (first-lacks s a x (standing s a x) (first_fallen s a es) l) ∙ is in cc)
-    | inr d ↦
-        let there = standing-stays s x a b more (λ l. let bad : falls ≡ lacks = sym d ∙ l in cc) ∙ d in
-        first-falls s b x (standing s b x) (first_fallen s b es) there
-        ∙ sym (first-falls s a x (standing s a x) (first_fallen s a es) d) ∙ is
-  ]
+first-stays s (x ∷ es) e a b more is = elim (first-from s a x (standing s a x) (first_fallen s a es) e is) [
+  | inl both ↦
+      let there = standing-stays s x a b more (λ l. let stood = both.0 in cc) ∙ both.0 in
+      first-stands s b x (standing s b x) (first_fallen s b es) there ∙ first-stays s es e a b more both.1
+  | inr here ↦
+      let there = standing-stays s x a b more (λ l. let fell = here.0 in cc) ∙ here.0 in
+      first-falls s b x (standing s b x) (first_fallen s b es) there ∙ ap (λ (y : BookEntry). Some y) here.1
 ]
 
 first-rest : (e : BookEntry) (v : Standing) (x y : Option BookEntry) → (v ≡ stands → x ≡ y) →
@@ -214,49 +201,41 @@ module _ (s : Sources) (last : LastRun) (a : Ask) where
 
   -- Which reason
 
-  requested-from : (asked : Bool) (o : Option Record) → reason_from s last a asked o ≡ Some Requested → asked ≡ true
-  requested-from true o is = refl
-  requested-from false None is = absurd (let bad : Unrecorded ≡ Requested = cc in cc)
-  requested-from false (Some r) is = elim (cases_Bool (is_intact last.file r)) [
-    | inl t ↦
-        let found = fallen-some (first_fallen s a r.entries) Requested (sym (intact-reason r t) ∙ is) in
-        absurd (let bad : Requested ≡ Fallen found.0 = found.2 in cc)
-    | inr f ↦ absurd (let bad : Some Altered ≡ Some Requested = sym (altered-reason r f) ∙ is in cc)
+  -- what a reason tells of a target
+  data Why (asked : Bool) (o : Option Record) : Option Reason → Type 0 where
+    why_kept : Why asked o None
+    why_requested : asked ≡ true → Why asked o (Some Requested)
+    why_unrecorded : asked ≡ false → o ≡ None → Why asked o (Some Unrecorded)
+    why_altered : asked ≡ false → (r : Record) → o ≡ Some r → is_intact last.file r ≡ false → Why asked o (Some Altered)
+    why_fallen : asked ≡ false → (r : Record) → o ≡ Some r → is_intact last.file r ≡ true → (e : BookEntry) →
+        first_fallen s a r.entries ≡ Some e → Why asked o (Some (Fallen e))
+
+  why-fallen : (r : Record) → is_intact last.file r ≡ true → (o : Option BookEntry) → first_fallen s a r.entries ≡ o →
+      Why false (Some r) (reason_fallen o)
+  why-fallen r t None is = why_kept
+  why-fallen r t (Some e) is = why_fallen refl r refl t e is
+
+  why : (asked : Bool) (o : Option Record) → Why asked o (reason_from s last a asked o)
+  why true o = why_requested refl
+  why false None = why_unrecorded refl refl
+  why false (Some r) = elim (cases_Bool (is_intact last.file r)) [
+    | inl t ↦ subst (Why false (Some r)) (sym (intact-reason r t)) (why-fallen r t (first_fallen s a r.entries) refl)
+    | inr f ↦ subst (Why false (Some r)) (sym (altered-reason r f)) (why_altered refl r refl f)
   ]
 
-  unrecorded-from : (asked : Bool) (o : Option Record) → reason_from s last a asked o ≡ Some Unrecorded →
-      (asked ≡ false) × (o ≡ None)
-  unrecorded-from true o is = absurd cc
-  unrecorded-from false None is = (refl, refl)
-  unrecorded-from false (Some r) is = elim (cases_Bool (is_intact last.file r)) [
-    | inl t ↦
-        let found = fallen-some (first_fallen s a r.entries) Unrecorded (sym (intact-reason r t) ∙ is) in
-        absurd (let bad : Unrecorded ≡ Fallen found.0 = found.2 in cc)
-    | inr f ↦ absurd (let bad : Some Altered ≡ Some Unrecorded = sym (altered-reason r f) ∙ is in cc)
-  ]
+  requested-from : (asked : Bool) (o : Option Record) → Why asked o (Some Requested) → asked ≡ true
+  requested-from asked o (why_requested is) = is
 
-  altered-from : (asked : Bool) (o : Option Record) → reason_from s last a asked o ≡ Some Altered →
+  unrecorded-from : (asked : Bool) (o : Option Record) → Why asked o (Some Unrecorded) → (asked ≡ false) × (o ≡ None)
+  unrecorded-from asked o (why_unrecorded free none) = (free, none)
+
+  altered-from : (asked : Bool) (o : Option Record) → Why asked o (Some Altered) →
       (asked ≡ false) × ((r : Record) × (o ≡ Some r) × (is_intact last.file r ≡ false))
-  altered-from true o is = absurd cc
-  altered-from false None is = absurd cc
-  altered-from false (Some r) is = elim (cases_Bool (is_intact last.file r)) [
-    | inl t ↦
-        let found = fallen-some (first_fallen s a r.entries) Altered (sym (intact-reason r t) ∙ is) in
-        absurd (let bad : Altered ≡ Fallen found.0 = found.2 in cc)
-    | inr f ↦ (refl, (r, refl, f))
-  ]
+  altered-from asked o (why_altered free r at f) = (free, (r, at, f))
 
-  fallen-from : (asked : Bool) (o : Option Record) (e : BookEntry) → reason_from s last a asked o ≡ Some (Fallen e) →
+  fallen-from : (asked : Bool) (o : Option Record) (e : BookEntry) → Why asked o (Some (Fallen e)) →
       (asked ≡ false) × ((r : Record) × (o ≡ Some r) × (is_intact last.file r ≡ true) × IsFirstFallen s a r.entries e)
-  fallen-from true o e is = absurd cc
-  fallen-from false None e is = absurd cc
-  fallen-from false (Some r) e is = elim (cases_Bool (is_intact last.file r)) [
-    | inl t ↦
-        let found = fallen-some (first_fallen s a r.entries) (Fallen e) (sym (intact-reason r t) ∙ is) in
-        let same : e ≡ found.0 = cc in
-        (refl, (r, refl, t, first-is s a r.entries e (found.1 ∙ ap (λ (x : BookEntry). Some x) (sym same))))
-    | inr f ↦ absurd (let bad : Some Altered ≡ Some (Fallen e) = sym (altered-reason r f) ∙ is in cc)
-  ]
+  fallen-from asked o _ (why_fallen free r at t e is) = (free, (r, at, t, first-is s a r.entries e is))
 
 module _ (s : Sources) (last : LastRun) (request : List (List ℕ)) where
   -- a script is begun exactly where there is a reason
@@ -266,17 +245,22 @@ module _ (s : Sources) (last : LastRun) (request : List (List ℕ)) where
   begun-reason a p ruled = begun-from s last a (is_among request p) (record_at last.book p)
       (λ r e. ap s.has_rule (found-target last.book p r e) ∙ ruled)
 
+  why-is : (a : Ask) (p : List ℕ) (x : Option Reason) → reason_of s last request a p ≡ x →
+      Why s last a (is_among request p) (record_at last.book p) x
+  why-is a p x is = subst (Why s last a (is_among request p) (record_at last.book p)) is
+      (why s last a (is_among request p) (record_at last.book p))
+
   pub reason-requested : (a : Ask) (p : List ℕ) →
       (reason_of s last request a p ≡ Some Requested) ↔ (is_among request p ≡ true)
   reason-requested a p = (
-    requested-from s last a (is_among request p) (record_at last.book p),
+    λ is. requested-from s last a (is_among request p) (record_at last.book p) (why-is a p (Some Requested) is),
     λ t. rw t refl,
   )
 
   pub reason-unrecorded : (a : Ask) (p : List ℕ) → (reason_of s last request a p ≡ Some Unrecorded) ↔
       ((is_among request p ≡ false) × (record_at last.book p ≡ None))
   reason-unrecorded a p = (
-    unrecorded-from s last a (is_among request p) (record_at last.book p),
+    λ is. unrecorded-from s last a (is_among request p) (record_at last.book p) (why-is a p (Some Unrecorded) is),
     λ parts. rw parts.0 (rw parts.1 refl),
   )
 
@@ -284,7 +268,7 @@ module _ (s : Sources) (last : LastRun) (request : List (List ℕ)) where
       ((is_among request p ≡ false) ×
       ((r : Record) × (record_at last.book p ≡ Some r) × (is_intact last.file r ≡ false)))
   reason-altered a p = (
-    altered-from s last a (is_among request p) (record_at last.book p),
+    λ is. altered-from s last a (is_among request p) (record_at last.book p) (why-is a p (Some Altered) is),
     λ parts. rw parts.0 (rw parts.1.1 (altered-reason s last a parts.1.0 parts.1.2)),
   )
 
@@ -292,7 +276,7 @@ module _ (s : Sources) (last : LastRun) (request : List (List ℕ)) where
       ((is_among request p ≡ false) × ((r : Record) × (record_at last.book p ≡ Some r) × (is_intact last.file r ≡ true) ×
       IsFirstFallen s a r.entries e))
   reason-fallen a p e = (
-    fallen-from s last a (is_among request p) (record_at last.book p) e,
+    λ is. fallen-from s last a (is_among request p) (record_at last.book p) e (why-is a p (Some (Fallen e)) is),
     λ parts. rw parts.0 (rw parts.1.1 (intact-reason s last a parts.1.0 parts.1.2
         ∙ ap reason_fallen (is-first s a parts.1.0.entries e parts.1.3))),
   )
@@ -303,21 +287,21 @@ module _ (s : Sources) (last : LastRun) (request : List (List ℕ)) where
   reason-recorded a p r free at intact e is =
       rw free (rw at (intact-reason s last a r intact ∙ ap reason_fallen is))
 
+  -- a reason under these answers is one under others if it is so of the first entry that fell
+  pub reason-moves : (a b : Ask) (p : List ℕ) (why : Reason) → ((r : Record) (e : BookEntry) →
+      is_among request p ≡ false → record_at last.book p ≡ Some r → is_intact last.file r ≡ true →
+      first_fallen s a r.entries ≡ Some e → first_fallen s b r.entries ≡ Some e) →
+      reason_of s last request a p ≡ Some why → reason_of s last request b p ≡ Some why
+  reason-moves a b p Requested moves is = (reason-requested b p).1 ((reason-requested a p).0 is)
+  reason-moves a b p Unrecorded moves is = (reason-unrecorded b p).1 ((reason-unrecorded a p).0 is)
+  reason-moves a b p Altered moves is = (reason-altered b p).1 ((reason-altered a p).0 is)
+  reason-moves a b p (Fallen e) moves is =
+      let parts = (reason-fallen a p e).0 is in
+      reason-recorded b p parts.1.0 parts.0 parts.1.1 parts.1.2 e
+      (moves parts.1.0 e parts.0 parts.1.1 parts.1.2 (is-first s a parts.1.0.entries e parts.1.3))
+
   -- under more answers it is the same
   pub reason-stays : (a b : Ask) (p : List ℕ) (why : Reason) → Extends (without_book s) a b →
       reason_of s last request a p ≡ Some why → reason_of s last request b p ≡ Some why
-  reason-stays a b p Requested more is = (reason-requested b p).1 ((reason-requested a p).0 is)
-  reason-stays a b p Unrecorded more is = (reason-unrecorded b p).1 ((reason-unrecorded a p).0 is)
-  reason-stays a b p Altered more is = (reason-altered b p).1 ((reason-altered a p).0 is)
-  reason-stays a b p (Fallen e) more is =
-      let parts = (reason-fallen a p e).0 is in
-      (reason-fallen b p e).1 (
-        parts.0,
-        (
-          parts.1.0,
-          parts.1.1,
-          parts.1.2,
-          first-is s b parts.1.0.entries e
-              (first-stays s parts.1.0.entries e a b more (is-first s a parts.1.0.entries e parts.1.3)),
-        ),
-      )
+  reason-stays a b p why more is =
+      reason-moves a b p why (λ r e free at intact first. first-stays s r.entries e a b more first) is
