@@ -124,6 +124,24 @@ module _ (s : Sources) (p : List ℕ) (c : Check) (final a : Ask) (ruled : s.has
       let same : recorded.0 ≡ now.0 = honest.apart x recorded.0 now.0 recorded.1 there (recorded.2 ∙ sym now.2) in
       (recorded.0, recorded.1, there ∙ sym (ap (λ (d : File). Some d) same))
 
+  -- what one entry asks for is asked for in the end, and where it stands it agrees
+  agree-entry : (ds : List Dep) (e : BookEntry) (es : List BookEntry) →
+      shown_all c.entries ≡ ds ++ shown e ∷ shown_all es → AllAgree then earlier s final ds →
+      HasState then earlier e → ((q : List ℕ) → IsAmong (asks s e) q → IsAmong (asked_under (without_book s) p final) q) ×
+      (standing s a e ≡ stands → AllAgree then earlier s final (shown e ∷ []))
+  unfolding then earlier
+  agree-entry ds (Change state x) es is all has =
+      let asked : is_asked s x ≡ true → IsAmong (asked_under (without_book s) p final) x =
+      λ t. honest.alike.next honest.truth.witness.file ds (shown_all es) x
+      honest.truth.witness.ruled ruled
+      (honest.truth.witness.came ∙ ap (built honest.truth.witness.file) is) all t in (
+        λ q m. let this = asks-among s state x q m in
+            subst (λ y. IsAmong (asked_under (without_book s) p final) y) this.0 (asked this.1),
+        λ t. (agree-change state x asked has t, tt),
+      )
+  agree-entry ds (Create x) es is all has = (λ q m. absurd m, λ t. (stands_if-stands (s.is_free x) t, tt))
+  agree-entry ds Always es is all has = (λ q m. absurd m, λ t. absurd cc)
+
   -- entry by entry: what the check asks for is asked for in the end, and what stands agrees
   agreed : (ds : List Dep) (es : List BookEntry) → shown_all c.entries ≡ ds ++ shown_all es →
       AllAgree then earlier s final ds →
@@ -132,44 +150,20 @@ module _ (s : Sources) (p : List ℕ) (c : Check) (final a : Ask) (ruled : s.has
       ((finding s a es).standing ≡ stands → AllAgree then earlier s final (shown_all es))
   unfolding then earlier
   agreed ds [] e all states = (λ q m. absurd m, λ _. tt)
-  agreed ds (Change state x ∷ es) e all states =
-      let asked : is_asked s x ≡ true → IsAmong (asked_under (without_book s) p final) x =
-      λ t. honest.alike.next honest.truth.witness.file ds (shown_all es) x
-      honest.truth.witness.ruled ruled
-      (honest.truth.witness.came ∙ ap (built honest.truth.witness.file) e) all t in
-      let this : standing s a (Change state x) ≡ stands → Agrees then earlier s final kinds.Change x =
-      agree-change state x asked states.0 in
-      let rest : (t : standing s a (Change state x) ≡ stands) →
+  agreed ds (x ∷ es) e all states =
+      let this = agree-entry ds x es e all states.0 in
+      let rest : (t : standing s a x ≡ stands) →
       ((q : List ℕ) → IsAmong (finding s a es).asked q → IsAmong (asked_under (without_book s) p final) q) ×
       ((finding s a es).standing ≡ stands → AllAgree then earlier s final (shown_all es)) =
-      λ t. agreed (ds ++ shown (Change state x) ∷ []) es
-      (e ∙ sym (append_assoc ds (shown (Change state x) ∷ []) (shown_all es)))
-      (all-agree-append then earlier s final ds (shown (Change state x) ∷ []) all (this t, tt)) states.1 in (
-        λ q m. elim (found-cases s (Change state x) (standing s a (Change state x)) (finding s a es) q m) [
-          | inl first ↦
-              let is = asks-among s state x q first in
-              let P : List ℕ → Type 0 =
-              λ y. IsAmong (asked_under (without_book s) p final) y in subst P is.0 (asked is.1)
+      λ t. agreed (ds ++ shown x ∷ []) es (e ∙ sym (append_assoc ds (shown x ∷ []) (shown_all es)))
+      (all-agree-append then earlier s final ds (shown x ∷ []) all (this.1 t)) states.1 in (
+        λ q m. elim (found-cases s x (standing s a x) (finding s a es) q m) [
+          | inl first ↦ this.0 q first
           | inr later ↦ (rest later.0).0 q later.1
         ],
-        λ t. let both = found-stands s (Change state x) (standing s a (Change state x)) (finding s a es) t in
-            (this both.0, (rest both.0).1 both.1),
+        λ t. let both = found-stands s x (standing s a x) (finding s a es) t in
+            ((this.1 both.0).0, (rest both.0).1 both.1),
       )
-  agreed ds (Create x ∷ es) e all states =
-      let this : standing s a (Create x) ≡ stands → s.is_free x ≡ true = λ t. stands_if-stands (s.is_free x) t in
-      let rest : (t : standing s a (Create x) ≡ stands) →
-      ((q : List ℕ) → IsAmong (finding s a es).asked q → IsAmong (asked_under (without_book s) p final) q) ×
-      ((finding s a es).standing ≡ stands → AllAgree then earlier s final (shown_all es)) =
-      λ t. agreed (ds ++ shown (Create x) ∷ []) es (e ∙ sym (append_assoc ds (shown (Create x) ∷ []) (shown_all es)))
-      (all-agree-append then earlier s final ds (shown (Create x) ∷ []) all (this t, tt)) states.1 in (
-        λ q m. elim (found-cases s (Create x) (standing s a (Create x)) (finding s a es) q m) [
-          | inl first ↦ absurd first
-          | inr later ↦ (rest later.0).0 q later.1
-        ],
-        λ t. let both = found-stands s (Create x) (standing s a (Create x)) (finding s a es) t in
-            (this both.0, (rest both.0).1 both.1),
-      )
-  agreed ds (Always ∷ es) e all states = (λ q m. absurd m, λ t. absurd cc)
 
   -- what the check asks for is asked for in the end
   pub check-asked : (q : List ℕ) → IsAmong (finding s a c.entries).asked q →
