@@ -37,49 +37,42 @@ abbrev asked_of : Sources → List ℕ → Option Check → Ask → List (List �
 asked_of s p o a = operands s.is_source (progress_checked s p o a).deps
 
 module _ (s : Sources) (lawful : AreLawful (without_book s)) (p : List ℕ) where
-  own : Ask → Progress
+  abbrev own : Ask → Progress
   own a = s.progress p a
 
   -- Of a target in check
 
   module _ (c : Check) where
-    at : Ask → Finding
+    abbrev at : Ask → Finding
     at a = finding s a c.entries
 
-    now : Ask → Progress
+    abbrev now : Ask → Progress
     now a = progress_found c.file (at a) (own a)
 
     cases : (a : Ask) (q : List ℕ) → IsAmong (operands s.is_source (now a).deps) q →
         IsAmong (at a).asked q ⊎ (((at a).standing ≡ falls) × IsAmong (operands s.is_source (own a).deps) q)
-    unfolding now
     cases a q m = asked-cases s.is_source c.file (at a) (own a) q m
 
     from_check : (a : Ask) (q : List ℕ) → IsAmong (at a).asked q → IsAmong (operands s.is_source (now a).deps) q
-    unfolding now at
     from_check a q m = asked-check s.is_source c.file (at a) (own a) q (finding-target s c.entries a q m) m
 
     from_script : (a : Ask) (q : List ℕ) → (at a).standing ≡ falls → IsAmong (operands s.is_source (own a).deps) q →
         IsAmong (operands s.is_source (now a).deps) q
-    unfolding now
     from_script a q f m = asked-script s.is_source c.file (at a) (own a) q f m
 
     now-same : (a b : Ask) → at a ≡ at b → ((at a).standing ≡ falls → own a ≡ own b) → now a ≡ now b
-    unfolding now
     now-same a b e h = progress-same c.file (at a) (own a) (own b) h ∙ ap (λ v. progress_found c.file v (own b)) e
 
     -- asks that agree on what it asks for give the same finding
     alike : (a b : Ask) → ((q : List ℕ) → IsAmong (operands s.is_source (now a).deps) q → a q ≡ b q) → at a ≡ at b
-    unfolding at
     alike a b same = finding-same s c.entries a b (λ q m. same q (from_check a q m))
 
     local : (a b : Ask) → ((q : List ℕ) → IsAmong (operands s.is_source (now a).deps) q → a q ≡ b q) → now a ≡ now b
-    unfolding own
     local a b same =
         now-same a b (alike a b same) (λ f. (lawful.each p).local a b (λ q m. same q (from_script a q f m)))
 
     answered : (q : List ℕ) (a : Ask) (o : Outcome) → (now a).outcome ≡ Some o →
         IsAmong (operands s.is_source (now a).deps) q → a q ≡ None → ⊥
-    unfolding now at own
     answered q a o ended m none = elim (cases a q m) [
       | inl in_check ↦
           let l = finding-unanswered s c.entries a q in_check none in
@@ -91,7 +84,6 @@ module _ (s : Sources) (lawful : AreLawful (without_book s)) (p : List ℕ) wher
 
     lacking : (a : Ask) → (now a).outcome ≡ None →
         (q : List ℕ) × IsAmong (operands s.is_source (now a).deps) q × (a q ≡ None)
-    unfolding now at own
     lacking a e = elim (cases_Standing (at a).standing) [
       | inl t ↦ absurd (let bad : Some (Built c.file) ≡ None = sym (progress-stands c.file (at a) (own a) t) ∙ e in cc)
       | inr other ↦ elim other [
@@ -103,12 +95,10 @@ module _ (s : Sources) (lawful : AreLawful (without_book s)) (p : List ℕ) wher
     ]
 
     stays : (a b : Ask) → Extends (without_book s) a b → (at a).standing ≡ falls → at a ≡ at b
-    unfolding at
     stays a b more f = finding-stays s c.entries a b more (λ l. falls-not-lacks _ f l)
 
     grows : (q : List ℕ) (a b : Ask) → Extends (without_book s) a b → IsAmong (operands s.is_source (now a).deps) q →
         IsAmong (operands s.is_source (now b).deps) q
-    unfolding at own
     grows q a b more m = elim (cases a q m) [
       | inl in_check ↦ from_check b q (finding-grows s c.entries a b q more in_check)
       | inr script ↦ from_script b q (ap (λ (v : Finding). v.standing) (sym (stays a b more script.0)) ∙ script.0)
@@ -126,7 +116,6 @@ module _ (s : Sources) (lawful : AreLawful (without_book s)) (p : List ℕ) wher
     still : (q : List ℕ) (a b : Ask) → Extends (without_book s) a b → IsAmong (operands s.is_source (now a).deps) q →
         b q ≡ None →
         at a ≡ at b
-    unfolding at
     still q a b more m none = elim (cases a q m) [
       | inl in_check ↦
           let lack = before a b q (finding-target s c.entries a q in_check) more none in
@@ -137,7 +126,6 @@ module _ (s : Sources) (lawful : AreLawful (without_book s)) (p : List ℕ) wher
     waits : (q : List ℕ) (a b : Ask) → Extends (without_book s) a b → IsAmong (operands s.is_source (now a).deps) q →
         b q ≡ None →
         now b ≡ now a
-    unfolding at own
     waits q a b more m none = elim (cases a q m) [
       | inl in_check ↦
           let lack = before a b q (finding-target s c.entries a q in_check) more none in
@@ -148,7 +136,6 @@ module _ (s : Sources) (lawful : AreLawful (without_book s)) (p : List ℕ) wher
     ]
 
     checked-lawful : IsLawful s.is_source (progress_checked s p (Some c))
-    unfolding now at own
     checked-lawful = record {
       local = local;
       answered = answered;
@@ -160,19 +147,16 @@ module _ (s : Sources) (lawful : AreLawful (without_book s)) (p : List ℕ) wher
 
     checked-recorded : (a b : Ask) → ((q : List ℕ) → IsAmong (operands s.is_source (now a).deps) q → a q ≡ b q) →
         record_checked s p (Some c) a ≡ record_checked s p (Some c) b
-    unfolding now at own
     checked-recorded a b same =
         record_by-same (at a).seen (own a).deps (own b).deps (at a).standing
         (λ f. ap (λ (x : Progress). x.deps) ((lawful.each p).local a b (λ q m. same q (from_script a q f m))))
         ∙ ap (λ (v : Finding). record_by v.seen (own b).deps v.standing) (alike a b same)
 
     checked-begins : (a b : Ask) → at a ≡ at b → begins_checked s (Some c) a ≡ begins_checked s (Some c) b
-    unfolding at
     checked-begins a b e = ap (λ (v : Finding). is_fallen v.standing) e
 
     checked-stays : (a b : Ask) → Extends (without_book s) a b → begins_checked s (Some c) a ≡ true →
         begins_checked s (Some c) b ≡ true
-    unfolding at
     checked-stays a b more e = sym (checked-begins a b (stays a b more (is_fallen-falls (at a).standing e))) ∙ e
 
   -- Of any target
@@ -183,13 +167,11 @@ module _ (s : Sources) (lawful : AreLawful (without_book s)) (p : List ℕ) wher
 
   begins-local : (o : Option Check) (a b : Ask) → ((q : List ℕ) → IsAmong (asked_of s p o a) q → a q ≡ b q) →
       begins_checked s o a ≡ begins_checked s o b
-  unfolding now at own
   begins-local None a b same = refl
   begins-local (Some c) a b same = checked-begins c a b (alike c a b same)
 
   recorded-local : (o : Option Check) (a b : Ask) → ((q : List ℕ) → IsAmong (asked_of s p o a) q → a q ≡ b q) →
       record_checked s p o a ≡ record_checked s p o b
-  unfolding now at own
   recorded-local None a b same = ap (λ (x : Progress). x.deps) ((lawful.each p).local a b same)
   recorded-local (Some c) a b same = checked-recorded c a b same
 
@@ -201,7 +183,6 @@ module _ (s : Sources) (lawful : AreLawful (without_book s)) (p : List ℕ) wher
   begins-waits : (o : Option Check) (q : List ℕ) (a b : Ask) → Extends (without_book s) a b →
       IsAmong (asked_of s p o a) q →
       b q ≡ None → begins_checked s o b ≡ begins_checked s o a
-  unfolding now at own
   begins-waits None q a b more m none = refl
   begins-waits (Some c) q a b more m none = sym (checked-begins c a b (still c q a b more m none))
 
