@@ -2,6 +2,7 @@
 use Rattle.std.proofs.Common.{◌≡◌, ℕ, Bool, true, false, ◌⊎◌, inl, inr, List, [], Some, None, refl}
 use Rattle.std.proofs.Common.{ap}
 use Rattle.redo_record.specs.declared.deps.DepKind.TheVariants.{Change}
+use Rattle.redo_record.specs.declared.outcome.Outcome.{Outcome}
 use Rattle.redo_record.specs.declared.outcome.Outcome.TheVariants.{Built}
 use Rattle.redo_record.specs.Entries.{is_entered, with_all}
 use Rattle.redo_record.specs.Paths.{IsAmong, AreDistinct}
@@ -12,7 +13,7 @@ use Rattle.redo_skip.specs.Sources.{File}
 use Rattle.redo_skip.specs.Checks.{Standing, stands, lacks, falls, Finding, asking, progress_by, progress_found}
 
 -- entries that ask for paths ask for these and no others
-asking-from : (ps : List (List ℕ)) (q : List ℕ) → is_entered (asking ps) Change q ≡ true → IsAmong ps q
+pub asking-from : (ps : List (List ℕ)) (q : List ℕ) → is_entered (asking ps) Change q ≡ true → IsAmong ps q
 asking-from ps q h = elim (change_cases [] ps q h) [
   | inl none ↦ absurd cc
   | inr some ↦ some
@@ -95,3 +96,15 @@ progress-falls file found own f = rw f refl
 pub progress-stands : (file : File) (found : Finding) (own : Progress) → found.standing ≡ stands →
     (progress_found file found own).outcome ≡ Some (Built file)
 progress-stands file found own t = rw t refl
+
+-- what has ended is kept, or its script is begun and has ended
+pub progress-ended : (file : File) (found : Finding) (own : Progress) (o : Outcome) →
+    (progress_found file found own).outcome ≡ Some o →
+    ((found.standing ≡ stands) × (Built file ≡ o)) ⊎ ((found.standing ≡ falls) × (own.outcome ≡ Some o))
+progress-ended file found own o = by found.standing
+  where
+    by : (v : Standing) → (progress_by file found.asked own v).outcome ≡ Some o →
+        ((v ≡ stands) × (Built file ≡ o)) ⊎ ((v ≡ falls) × (own.outcome ≡ Some o))
+    by stands e = inl (refl, cc)
+    by lacks e = absurd cc
+    by falls e = inr (refl, e)

@@ -22,6 +22,13 @@ cases_Standing stands = inl refl
 cases_Standing lacks = inr (inl refl)
 cases_Standing falls = inr (inr refl)
 
+-- where each has what the other has they are the same
+pub same-both : {A : Type 0} (x y : Option A) → ((z : A) → x ≡ Some z → y ≡ Some z) →
+    ((z : A) → y ≡ Some z → x ≡ Some z) → x ≡ y
+same-both (Some z) y more less = sym (more z refl)
+same-both None (Some z) more less = less z refl
+same-both None None more less = refl
+
 -- whether the script of a target is begun, in check or not
 abbrev pub begins_checked : Sources → Option Check → Ask → Bool
 begins_checked s o a = not (is_kept s o a) && not (waits_in_check s o a)

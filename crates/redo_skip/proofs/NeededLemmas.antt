@@ -1,23 +1,20 @@
 -- With an honest book no more targets are needed than without one.
 use Rattle.std.proofs.Common.{◌≡◌, ℕ, ◌≤◌, false, inl, inr, List, length, Option, Some, None, refl, sym, subst, arith}
-use Rattle.std.proofs.lemmas.Bool.{cases_Bool}
 use Rattle.redo_names.proofs.ListLemmas.{within-length}
-use Rattle.redo_names.proofs.PathLemmas.{among-told}
 use Rattle.redo_record.specs.declared.outcome.Outcome.{Outcome}
 use Rattle.redo_record.specs.Paths.{IsAmong, is_among}
 use Rattle.redo_record.specs.Progress.{Progress, operands}
-use Rattle.redo_build.specs.Rules.{Ask, AreLawful, Extends, Rules, asked_under}
+use Rattle.redo_build.specs.Rules.{Ask, AreLawful, Rules, asked_under}
 use Rattle.redo_build.specs.Outcomes.{outcome_at, needed_at, IsSettled}
 use Rattle.redo_build.specs.Schedule.{only}
 use Rattle.redo_build.proofs.DepthLemmas.{reached-target, reached-within, reached-more, reached-distinct, settled}
-use Rattle.redo_build.proofs.TurnLemmas.{only-some, only-among}
 use Rattle.redo_skip.specs.Sources.{Sources, without_book}
 use Rattle.redo_skip.specs.Checks.{finding, Check, Checks, progress_checked, with_book, AreChecks}
 use Rattle.redo_skip.specs.Truth.{AreHonest}
 use Rattle.redo_skip.proofs.AskedLemmas.{asked-cases}
 use Rattle.redo_skip.proofs.AgreeLemmas.{check-asked}
 use Rattle.redo_skip.proofs.LawfulLemmas.{with_book-lawful}
-use Rattle.redo_skip.proofs.SkipLemmas.{sound_at}
+use Rattle.redo_skip.proofs.SkipLemmas.{known-more, known-same, sound_at}
 
 module _ (s : Sources) (k : Checks) (lawful : AreLawful (without_book s)) (are : AreChecks s k)
     (request : List (List ℕ)) (limit : ℕ) (few : length (needed_at (without_book s) request limit) ≤ limit)
@@ -55,18 +52,12 @@ module _ (s : Sources) (k : Checks) (lawful : AreLawful (without_book s)) (are :
   script-needed : (p q : List ℕ) → IsNeeded p →
       IsAmong (operands s.is_source (s.progress p (outcome_at booked limit)).deps) q → IsNeeded q
   script-needed p q m asks =
-      let known : Ask = only (needed_at plain request limit) (outcome_at booked limit) in
-      let more : Extends plain known (outcome_at plain limit) = λ x o t e. elim (cases_Bool (is_among (needed_at plain request limit) x)) [
-        | inl there ↦ sound-end x o (among-told (needed_at plain request limit) x there)
-            (only-some (needed_at plain request limit) (outcome_at booked limit) x o e)
-        | inr away ↦ absurd (let bad : None ≡ Some o = rw away at e in cc)
-      ] in
-      let same : s.progress p known ≡ s.progress p (outcome_at booked limit) =
-      (lawful.each p).local known (outcome_at booked limit)
-      (λ x asks'. only-among (needed_at plain request limit) (outcome_at booked limit) x
-      (needed-asks p x m ((lawful.each p).grows x known (outcome_at plain limit) more asks'))) in
+      let end : Ask = outcome_at booked limit in
+      let sound = sound_at s k lawful are request limit few honest limit in
+      let same = known-same s k lawful are request limit few honest p end m sound in
       let P : Progress → Type 0 = λ x. IsAmong (operands s.is_source x.deps) q in
-      needed-asks p q m ((lawful.each p).grows q known (outcome_at plain limit) more (subst P (sym same) asks))
+      needed-asks p q m ((lawful.each p).grows q (only (needed_at plain request limit) end) (outcome_at plain limit)
+      (known-more s k lawful are request limit few honest end sound) (subst P (sym same) asks))
 
   asked-by : (p q : List ℕ) (o : Option Check) → IsNeeded p → k p ≡ o →
       IsAmong (operands s.is_source (progress_checked s p o (outcome_at booked limit)).deps) q → IsNeeded q

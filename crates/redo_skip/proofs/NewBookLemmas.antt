@@ -32,8 +32,8 @@ use Rattle.redo_book.specs.Noted.{entry_as, new_record, noted}
 use Rattle.redo_skip.specs.NewBook.{LastRun, is_valid, check_by, checks_of, state_known}
 use Rattle.redo_skip.specs.NewBook.{carried, built_with, record_with, new_book, AreTrue, CanBeNoted}
 use Rattle.redo_skip.specs.NewBook.{IsGood, IsOfRun, IsHonestRecord, AreHonestRecords}
-use Rattle.redo_skip.proofs.CheckLemmas.{cases_Standing, found-stands}
-use Rattle.redo_skip.proofs.AskedLemmas.{progress-lacks, progress-falls, progress-stands}
+use Rattle.redo_skip.proofs.CheckLemmas.{found-stands}
+use Rattle.redo_skip.proofs.AskedLemmas.{progress-ended}
 use Rattle.redo_skip.proofs.LawfulLemmas.{with_book-lawful}
 use Rattle.redo_skip.proofs.AgreeLemmas.{same_state-true, finding-seen, stands-file}
 
@@ -175,10 +175,7 @@ module _ (s : Sources) (last : LastRun) (request : List (List ℕ)) where
 
 -- The new book
 
-cases_told : (o : Option Outcome) → (told o ≡ None) ⊎ ((file : File) × (told o ≡ Some file))
-cases_told o = cases_Option (told o)
-
-built_eta : (x : Progress) (file : File) → x.outcome ≡ Some (Built file) → x ≡ built file x.deps
+pub built_eta : (x : Progress) (file : File) → x.outcome ≡ Some (Built file) → x ≡ built file x.deps
 built_eta x file e = ap (λ (o : Option Outcome). record { outcome = o; deps = x.deps }) e
 
 built_with-built : (o : Option Outcome) (file : File) → option_and_then built_with o ≡ Some file → o ≡ Some (Built file)
@@ -210,13 +207,13 @@ module _ (s : Sources) (last : LastRun) (request : List (List ℕ)) (limit : ℕ
   sane-step : (q : List ℕ) (a : Ask) (o : Option Check) → s.is_source q ≡ false →
       ((c : Check) → o ≡ Some c → s.has_rule q ≡ true) →
       s.is_script q ≡ true → told (progress_checked s q o a).outcome ≡ None
-  sane-step q a None made ruled t = elim (cases_told (s.progress q a).outcome) [
+  sane-step q a None made ruled t = elim (cases_Option (told (s.progress q a).outcome)) [
     | inl none ↦ none
     | inr some ↦ absurd (both_ways _ (good.scripts q t) (good.ruled q a some.0 made some.1))
   ]
   sane-step q a (Some c) made ruled t = absurd (both_ways _ (good.scripts q t) (ruled c refl))
 
-  sane : (n : ℕ) (q : List ℕ) → s.is_script q ≡ true → s.is_source q ≡ false →
+  pub sane : (n : ℕ) (q : List ℕ) → s.is_script q ≡ true → s.is_source q ≡ false →
       told (outcome_at rules n q) ≡ None
   sane zero q t made = ap told (outcome_at-zero rules rules-lawful q made)
   sane (suc n) q t made =
@@ -248,26 +245,19 @@ module _ (s : Sources) (last : LastRun) (request : List (List ℕ)) (limit : ℕ
       (progress_checked s p o end).outcome ≡ Some (Built file) →
       IsHere p (new_record (state_known s end) p file (record_checked s p o end))
   built-here p file None made h e = begun-here p file made e
-  built-here p file (Some c) made h e = elim (cases_Standing (finding s end c.entries).standing) [
-    | inl t ↦
-        let was : Some (Built c.file) ≡ Some (Built file) =
-        sym (progress-stands c.file (finding s end c.entries) (s.progress p end) t) ∙ e in
-        let same : c.file ≡ file = cc in
-        let seen : noted (state_known s end) (finding s end c.entries).seen ≡ c.entries =
-        ap (λ ds. noted (state_known s end) ds) (finding-seen s c.entries end t) ∙ noted-kept s end c.entries t in
-        let P : File → Type 0 = λ y. IsHere p (new_record (state_known s end) p y (finding s end c.entries).seen) in
-        let Q : List BookEntry → Type 0 = λ y. IsHere p (record { target = p; state = state_of c.file; entries = y }) in
-        rw t (subst P same (subst Q (sym seen) (inr (h c refl))))
-    | inr other ↦ elim other [
-      | inl l ↦
-          let bad : None ≡ Some (Built file) =
-          sym (progress-lacks c.file (finding s end c.entries) (s.progress p end) l) ∙ e in cc
-      | inr f ↦
-          let ended : (s.progress p end).outcome ≡ Some (Built file) =
-          sym (progress-falls c.file (finding s end c.entries) (s.progress p end) f) ∙ e in
-          rw f (begun-here p file made ended)
-    ]
-  ]
+  built-here p file (Some c) made h e =
+      elim (progress-ended c.file (finding s end c.entries) (s.progress p end) (Built file) e) [
+        | inl stood ↦
+            let same : c.file ≡ file = let is = stood.1 in cc in
+            let seen : noted (state_known s end) (finding s end c.entries).seen ≡ c.entries =
+            ap (λ ds. noted (state_known s end) ds) (finding-seen s c.entries end stood.0)
+            ∙ noted-kept s end c.entries stood.0 in
+            let P : File → Type 0 = λ y. IsHere p (new_record (state_known s end) p y (finding s end c.entries).seen) in
+            let Q : List BookEntry → Type 0 =
+            λ y. IsHere p (record { target = p; state = state_of c.file; entries = y }) in
+            rw stood.0 (subst P same (subst Q (sym seen) (inr (h c refl))))
+        | inr begun ↦ rw begun.0 (begun-here p file made begun.1)
+      ]
 
   carried-by : (p : List ℕ) (o : Option Record) (r : Record) → record_at last.book p ≡ o →
       option_and_then (λ x. cond (is_valid s last x) (Some x) None) o ≡ Some r → record_at last.book p ≡ Some r

@@ -4,7 +4,7 @@ use Rattle.std.proofs.Common.{refl, sym, ap}
 use Rattle.std.proofs.Common.{subst, ◌∙◌, arith}
 use Rattle.std.proofs.lemmas.Bool.{cases_Bool}
 use Rattle.redo_names.proofs.ListLemmas.{within-length}
-use Rattle.redo_names.proofs.PathLemmas.{among-told, told-among}
+use Rattle.redo_names.proofs.PathLemmas.{among-told}
 use Rattle.redo_record.specs.declared.deps.Dep.{Dep}
 use Rattle.redo_record.specs.declared.outcome.Outcome.{Outcome}
 use Rattle.redo_record.specs.declared.outcome.Outcome.TheVariants.{Built}
@@ -16,13 +16,15 @@ use Rattle.redo_build.specs.Schedule.{only}
 use Rattle.redo_build.proofs.DepthLemmas.{cases_Option, ended_stays, deeper, outcome_at-step, outcome_at-zero}
 use Rattle.redo_build.proofs.DepthLemmas.{reached-target}
 use Rattle.redo_build.proofs.DepthLemmas.{reached-within, reached-more, reached-distinct, settled}
+use Rattle.redo_build.proofs.TurnLemmas.{only-among}
 use Rattle.redo_skip.specs.Sources.{Sources, without_book}
 use Rattle.redo_skip.specs.Checks.{Standing, stands, falls, finding, Check, Checks, built, record_by}
 use Rattle.redo_skip.specs.Checks.{progress_checked}
 use Rattle.redo_skip.specs.Checks.{record_checked, with_book, AreChecks}
 use Rattle.redo_skip.specs.Truth.{shown_all, IsHonest, AreHonest, IsSkipping, NoneCyclic}
 use Rattle.redo_skip.proofs.CheckLemmas.{begins_checked, is_fallen, cases_Standing, finding-target, finding-lacks}
-use Rattle.redo_skip.proofs.AskedLemmas.{asked-cases, asked-check, asked-script, progress-lacks, progress-falls}
+use Rattle.redo_skip.proofs.CheckLemmas.{same-both}
+use Rattle.redo_skip.proofs.AskedLemmas.{asked-cases, asked-check, asked-script, progress-ended, progress-falls}
 use Rattle.redo_skip.proofs.AskedLemmas.{progress-stands}
 use Rattle.redo_skip.proofs.LawfulLemmas.{with_book-lawful}
 use Rattle.redo_skip.proofs.AgreeLemmas.{finding-seen, finding-all, check-asked, check-kept}
@@ -33,9 +35,6 @@ only-known ps a q o e = elim (cases_Bool (is_among ps q)) [
   | inl t ↦ (among-told ps q t, rw t at e)
   | inr f ↦ absurd (let bad : None ≡ Some o = rw f at e in cc)
 ]
-
-only-among : (ps : List (List ℕ)) (a : Ask) (q : List ℕ) → IsAmong ps q → only ps a q ≡ a q
-only-among ps a q m = rw (told-among ps q m) refl
 
 record_by-kept : (seen own : List Dep) (v : Standing) → v ≡ stands → record_by seen own v ≡ seen
 record_by-kept seen own v e = rw e refl
@@ -188,38 +187,40 @@ module _ (s : Sources) (k : Checks) (lawful : AreLawful (without_book s)) (are :
   in-check : (p : List ℕ) (c : Check) → k p ≡ Some c → (s.has_rule p ≡ true) × IsHonest s p c final
   in-check p c e = (are.ruled p c e, honest p c e)
 
+  -- what sound answers tell of needed targets is so in the end
+  pub known-more : (a : Ask) → IsSound a → Extends plain (only (needed_at plain request limit) a) final
+  known-more a sound q v t e =
+      let parts = only-known (needed_at plain request limit) a q v e in sound q v parts.0 parts.1
+
+  -- and their scripts ask for no others
+  pub known-same : (p : List ℕ) (a : Ask) → IsNeeded p → IsSound a →
+      s.progress p (only (needed_at plain request limit) a) ≡ s.progress p a
+  known-same p a m sound =
+      let known : Ask = only (needed_at plain request limit) a in
+      (lawful.each p).local known a (λ q asks. only-among (needed_at plain request limit) a q
+      (needed-asks p q m ((lawful.each p).grows q known final (known-more a sound) asks)))
+
   -- a script that ended under sound answers is where it is in the end
   script-stays : (p : List ℕ) (a : Ask) (o : Outcome) → IsNeeded p → IsSound a → (s.progress p a).outcome ≡ Some o →
       s.progress p a ≡ s.progress p final
   script-stays p a o m sound ended =
-      let known : Ask = only (needed_at plain request limit) a in
-      let more : Extends plain known final =
-      λ q v t e. let parts = only-known (needed_at plain request limit) a q v e in sound q v parts.0 parts.1 in
-      let same : s.progress p known ≡ s.progress p a =
-      (lawful.each p).local known a (λ q asks. only-among (needed_at plain request limit) a q
-      (needed-asks p q m ((lawful.each p).grows q known final more asks))) in
-      sym same ∙ ended_stays plain lawful p known final o more (ap (λ (x : Progress). x.outcome) same ∙ ended)
+      let same = known-same p a m sound in
+      sym same ∙ ended_stays plain lawful p (only (needed_at plain request limit) a) final o (known-more a sound)
+      (ap (λ (x : Progress). x.outcome) same ∙ ended)
 
   progress-sound : (p : List ℕ) (a : Ask) (o : Outcome) → IsNeeded p → IsSound a → (check : Option Check) →
       ((c : Check) → check ≡ Some c → (s.has_rule p ≡ true) × IsHonest s p c final) →
       (progress_checked s p check a).outcome ≡ Some o → (s.progress p final).outcome ≡ Some o
   progress-sound p a o m sound None h e = ap (λ (x : Progress). x.outcome) (sym (script-stays p a o m sound e)) ∙ e
-  progress-sound p a o m sound (Some c) h e = elim (cases_Standing (finding s a c.entries).standing) [
-    | inl t ↦
-        let this = h c refl in
-        let kept =
-        check-kept s p c final a this.0 this.1 (λ q v asks known. sound q v (needed-asks p q m asks) known) t in
-        ap (λ (x : Progress). x.outcome) kept ∙ sym (progress-stands c.file (finding s a c.entries) (s.progress p a) t)
-        ∙ e
-    | inr other ↦ elim other [
-      | inl l ↦
-          let bad : None ≡ Some o = sym (progress-lacks c.file (finding s a c.entries) (s.progress p a) l) ∙ e in cc
-      | inr f ↦
-          let ended : (s.progress p a).outcome ≡ Some o =
-          sym (progress-falls c.file (finding s a c.entries) (s.progress p a) f) ∙ e in
-          ap (λ (x : Progress). x.outcome) (sym (script-stays p a o m sound ended)) ∙ ended
-    ]
-  ]
+  progress-sound p a o m sound (Some c) h e =
+      elim (progress-ended c.file (finding s a c.entries) (s.progress p a) o e) [
+        | inl stood ↦
+            let this = h c refl in
+            let kept = check-kept s p c final a this.0 this.1
+            (λ q v asks known. sound q v (needed-asks p q m asks) known) stood.0 in
+            ap (λ (x : Progress). x.outcome) kept ∙ ap (λ (x : Outcome). Some x) stood.1
+        | inr begun ↦ ap (λ (x : Progress). x.outcome) (sym (script-stays p a o m sound begun.1)) ∙ begun.1
+      ]
 
   -- what the build with the book decides of needed targets at any depth, the build without it decides too
   pub sound_at : (n : ℕ) → IsSound (outcome_at booked n)
@@ -256,13 +257,8 @@ module _ (s : Sources) (k : Checks) (lawful : AreLawful (without_book s)) (are :
 
   -- each target that the build without the book needs comes to the same, cyclic ones too
   pub outcomes-agree : (p : List ℕ) → IsNeeded p → outcome_at booked limit p ≡ final p
-  outcomes-agree p m = elim (cases_Option (final p)) [
-    | inl none ↦ elim (cases_Option (outcome_at booked limit p)) [
-      | inl none' ↦ none' ∙ sym none
-      | inr some ↦ absurd (let bad : None ≡ Some some.0 = sym none ∙ sound_at limit p some.0 m some.1 in cc)
-    ]
-    | inr some ↦ reaches limit (omega arith) p some.0 m some.1 ∙ sym some.1
-  ]
+  outcomes-agree p m = same-both (outcome_at booked limit p) (final p) (λ o e. sound_at limit p o m e)
+      (λ o e. reaches limit (omega arith) p o m e)
 
   module _ (decided : NoneCyclic plain request limit) where
     full-at : (p : List ℕ) → IsNeeded p → IsFull s p final (outcome_at booked limit)

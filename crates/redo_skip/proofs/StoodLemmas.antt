@@ -18,7 +18,7 @@ use Rattle.redo_record.specs.declared.outcome.Outcome.{Outcome}
 use Rattle.redo_record.specs.Entries.{with_entries, with_entry}
 use Rattle.redo_record.specs.Paths.{IsAmong, is_among}
 use Rattle.redo_record.specs.Progress.{operands as operands_of}
-use Rattle.redo_record.proofs.Public.{change_cases, change_entered, entered_operand, operand_entered}
+use Rattle.redo_record.proofs.Public.{change_entered, entered_operand, operand_entered}
 use Rattle.redo_book.specs.declared.book.BookEntry.{BookEntry}
 use Rattle.redo_book.specs.declared.book.BookEntry.TheVariants.{Change, Create, Always}
 use Rattle.redo_book.specs.Book.{same_entry}
@@ -29,6 +29,7 @@ use Rattle.redo_skip.specs.Checks.{lacks, shown}
 use Rattle.redo_skip.specs.Checks.{standing, stands, stands_if, told}
 use Rattle.redo_skip.specs.Sources.{Sources}
 use Rattle.redo_skip.proofs.CheckLemmas.{asks-among, asks-this, by_answer, not-or, standing-asked, standing-fixed}
+use Rattle.redo_skip.proofs.AskedLemmas.{asking-from}
 use Rattle.redo_skip.proofs.CheckLemmas.{standing-same, stands_if-lacks}
 use Rattle.redo_skip.specs.inside.Stood.{HaveStood, StandAlone, asked_by}
 
@@ -84,10 +85,7 @@ module _ (source : List ℕ → Bool) where
   asked-in ps q m target = entered_operand source (asking ps) q target (change_entered [] ps q m)
 
   pub asked-out : (ps : List (List ℕ)) (q : List ℕ) → IsAmong (operands_of source (asking ps)) q → IsAmong ps q
-  asked-out ps q m = elim (change_cases [] ps q (operand_entered source (asking ps) q m)) [
-    | inl none ↦ absurd cc
-    | inr some ↦ some
-  ]
+  asked-out ps q m = asking-from ps q (operand_entered source (asking ps) q m)
 
 pub only-none : (ps : List (List ℕ)) (a : Ask) (q : List ℕ) → (IsAmong ps q → ⊥) → only ps a q ≡ None
 only-none ps a q other = elim (cases_Bool (is_among ps q)) [
