@@ -1,5 +1,6 @@
 pub mod Called
 pub mod Loaded
+pub mod Locks
 pub mod Own
 pub mod Stored
 pub mod Storing

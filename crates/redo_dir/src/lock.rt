@@ -1,8 +1,13 @@
 //! The lock of a directory, by which two runs are kept apart.
 
+ghost use Rattle.std.specs.Prelude.{◌≡◌, ◌≢◌, IfErr, IfOk, false, true};
+ghost use Rattle.redo_dir.specs.Locks.{is_busy};
+ghost use Rattle.redo_dir.specs.declared.lock.LockFault.TheVariants.{Busy};
+
 use std::alloc::{AllocError, Global};
 use std::fs::{File, TryLockError};
 use std::io::ErrorKind;
+use std::marker::Model;
 use std::path::Path as SystemPath;
 use std::rt::Files;
 use std::{fs, io};
@@ -23,12 +28,16 @@ pub enum LockFault {
 }
 
 impl From<AllocError> for LockFault {
+    ghost from_gives = { λ _ fault. fault ≢ Busy };
+
     fn from(_error: AllocError) -> LockFault {
         LockFault::Memory
     }
 }
 
 impl From<io::Error> for LockFault {
+    ghost from_gives = { λ _ fault. fault ≢ Busy };
+
     fn from(error: io::Error) -> LockFault {
         match error.kind() {
             ErrorKind::OutOfMemory => LockFault::Memory,
@@ -39,11 +48,21 @@ impl From<io::Error> for LockFault {
 
 /// An open directory that can be locked.
 pub trait Lockable {
+    ghost use Rattle.std.specs.Prelude.{Bool};
+
+    // It was asked for its lock, and another open of the directory held that, or none did.
+    ghost asked: { Self → Bool → Type 0 };
+
     /// Takes the lock, unless another open of the directory holds it.
-    fn try_lock(&self) -> Result<(), TryLockError>;
+    fn try_lock(&self) -> Result<(), TryLockError>
+        ensures { asked self.now (is_busy result) };
 }
 
 impl Lockable for File {
+    ghost use Rattle.std.specs.Prelude.{Unit};
+
+    ghost asked = { λ _ _. Unit {0} };
+
     fn try_lock(&self) -> Result<(), TryLockError> {
         File::try_lock(self)
     }
@@ -53,7 +72,13 @@ impl Lockable for File {
 #[derive(Drop)]
 pub struct DirLock<F> {
     /// The open directory.
-    _dir: F,
+    dir: F,
+}
+
+impl<F> Model for DirLock<F> {
+    ghost Value = { F };
+
+    ghost view = { λ l. l.dir };
 }
 
 /// Takes the lock of a directory of the system. A directory whose file system refuses locks is not refused: a build there
@@ -61,12 +86,14 @@ pub struct DirLock<F> {
 pub fn lock_dir<R: Files>(rt: &R, alloc: Global, top: &str) -> Result<DirLock<R::File>, LockFault>
 where
     R::File: Lockable,
+    ensures taken { IfOk result (λ dir. R.File.asked dir false) }
+    ensures busy { IfErr result (λ fault. fault ≡ Busy → (dir : R.File) × R.File.asked dir true) }
 {
     // With a slash behind it only a directory is opened, and no pipe is waited for.
     let place = SystemPath::new(top).join(alloc, "")?;
     let dir = fs::open(rt, place.as_path())?;
     match dir.try_lock() {
         Err(TryLockError::WouldBlock) => Err(LockFault::Busy),
-        Ok(()) | Err(TryLockError::Error(_)) => Ok(DirLock { _dir: dir }),
+        Ok(()) | Err(TryLockError::Error(_)) => Ok(DirLock { dir }),
     }
 }
