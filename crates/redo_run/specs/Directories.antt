@@ -4,6 +4,7 @@ use Rattle.std.specs.Prelude.{◌≡◌, ◌↔◌, ◌++◌, ◌⊎◌, ◌+◌
 use Rattle.std.specs.Prelude.{Ok, Err, None, if◌then◌else◌, length, take}
 use Rattle.std.specs.Io.KnownBytes.{Appends}
 use Rattle.std.specs.declared.io.ErrorKind.{ErrorKind}
+use Rattle.std.specs.declared.io.ErrorKind.TheVariants.{NotFound}
 use Rattle.redo_rules.specs.Build.{GivenView}
 use Rattle.redo_rules.specs.Results.{IsGiven, IsOfTree, IsRefused, IsResult, NeedsTooMany as TreeNeedsTooMany}
 use Rattle.redo_past.specs.NewBook.{IsWithBook}
@@ -57,10 +58,14 @@ IsUnmended tree (Book n) = IsRefused tree n
 IsUnmended tree Memory = Unit {0}
 IsUnmended tree _ = ⊥
 
--- what was told to stand at this path is no file of the tree
-abbrev pub IsBlocked : (List ℕ → Option Node → Type 0) → Tree → List ℕ → Bool → Type 0
-IsBlocked leads tree path false = Unit {0}
-IsBlocked leads tree path true = (file_at tree path ≡ None) × (node : Option Node) × leads path node
+-- the tree has a file at this path, or a look at it was answered that nothing stands there
+abbrev pub IsFileOrNone : (List ℕ → ErrorKind → Type 0) → Tree → List ℕ → Type 0
+IsFileOrNone refuses tree path = IsSome (file_at tree path) ⊎ refuses path NotFound
+
+-- whether something stands at this path that is no file of the tree
+abbrev pub IsBlocked : (List ℕ → Option Node → Type 0) → (List ℕ → ErrorKind → Type 0) → Tree → List ℕ → Bool → Type 0
+IsBlocked leads refuses tree path false = IsFileOrNone refuses tree path
+IsBlocked leads refuses tree path true = (file_at tree path ≡ None) × (node : Option Node) × leads path node
 
 -- a call at the path was refused by this error
 abbrev pub IsRefusedBy : (List ℕ → ErrorKind → Type 0) → LoadFault → Type 0

@@ -5,8 +5,10 @@ ghost use Rattle.std.specs.Arc.{arc_value};
 ghost use Rattle.redo_core.specs.Permits.{IsUnused};
 ghost use Rattle.redo_dir.specs.Loaded.{IsLoaded};
 ghost use Rattle.redo_rules.specs.Results.{IsOfTree};
+ghost use Rattle.redo_which.specs.Candidates.{book_path as path_of_book, journal_path as path_of_journal};
 ghost use Rattle.redo_run.specs.DirFaults.{of_load};
-ghost use Rattle.redo_run.specs.Directories.{FallsInList, IsBuilt, IsBlocked, IsFaultOf, IsRefusedBy, IsUnbuilt, IsUnread};
+ghost use Rattle.redo_run.specs.Directories.{FallsInList, IsBuilt, IsBlocked, IsFaultOf, IsFileOrNone, IsRefusedBy, IsUnbuilt};
+ghost use Rattle.redo_run.specs.Directories.{IsUnread};
 ghost use Rattle.redo_run.specs.Directories.{FallsInPreview, IsUnwritten, ListsTree, PreviewsTree, ReportsTree, to_build};
 ghost use Rattle.redo_run.specs.inside.Foreseen.{IsForeseen, IsUnforeseen};
 ghost use Rattle.redo_run.specs.inside.Loading.{HasNoPlace};
@@ -67,7 +69,7 @@ fn is_blocked<D: WorkDir>(
     tree: &Tree,
     place: &Path,
 ) -> Result<bool, LoadFault>
-    ensures blocked { IfOk result (IsBlocked (D.leads dir.now) tree.now place.now) }
+    ensures blocked { IfOk result (IsBlocked (D.leads dir.now) (D.refuses dir.now) tree.now place.now) }
     ensures refused { IfErr result (IsRefusedBy (D.refuses dir.now)) }
 {
     if tree.content(place).is_some() {
@@ -119,6 +121,7 @@ fn check_place<D: WorkDir>(
     place: &FilePlace,
     cause: &mut Cause,
 ) -> Result<(), RunDirFault>
+    ensures alone { IfOk result (λ _. IsFileOrNone (D.refuses dir.now) tree.now place.now.path) }
     ensures refused { IfErr result (HasNoPlace (D.leads dir.now) (D.refuses dir.now) tree.now place.now.path) }
 {
     match is_blocked(dir, alloc, tree, &place.path) {
@@ -143,6 +146,8 @@ pub fn load_with_book<T: Threads + Sync, D: WorkDir + Sync>(
 where
     D::Draft: Send,
     ensures loaded { IfOk result (λ loaded. IsLoaded (D.lists dir.now) (D.leads dir.now) loaded.0 loaded.1) }
+    ensures book { IfOk result (λ loaded. IsFileOrNone (D.refuses dir.now) loaded.0 path_of_book) }
+    ensures journal { IfOk result (λ loaded. IsFileOrNone (D.refuses dir.now) loaded.0 path_of_journal) }
     ensures unread { IfErr result (IsUnread (D.lists dir.now) (D.leads dir.now) (D.refuses dir.now)) }
 {
     let (tree, passed) = load(rt, alloc, dir, workers, cause)?;
