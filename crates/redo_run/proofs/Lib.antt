@@ -6,6 +6,7 @@ pub mod KeepingExamples
 pub mod LedgerLemmas
 pub mod OpenedLemmas
 pub mod PoolLemmas
+pub mod ReadingLemmas
 pub mod RefusalLemmas
 pub mod SoundLemmas
 pub mod StaysOutLemmas

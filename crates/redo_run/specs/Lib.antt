@@ -5,6 +5,7 @@ pub mod Exits
 pub mod Faults
 pub mod Jobs
 pub mod Picks
+pub mod Reading
 pub mod Runs
 pub mod Skipping
 pub mod Storing

@@ -1,13 +1,21 @@
 //! Laws of runs. The functions do nothing: each contract is a law.
 
-ghost use Rattle.std.specs.Prelude.{ℕ, List};
+ghost use Rattle.std.specs.Prelude.{◌≡◌, ℕ, List, None};
+ghost use Rattle.redo_mend.specs.Mended.{MendsTo};
+ghost use Rattle.redo_reads.specs.Reads.{AgreeOn, AreNamedAlike};
 ghost use Rattle.redo_report.specs.declared.report.Report.{Report};
 ghost use Rattle.redo_rules.specs.Results.{IsResultOn, NeedsTooMany};
+ghost use Rattle.redo_run.specs.Directories.{IsBuilt, steps_of, to_build};
+ghost use Rattle.redo_run.specs.Reading.{HasRead};
 ghost use Rattle.redo_run.specs.Skipping.{IsSoundOn, IsUnsafeOn};
 ghost use Rattle.redo_step.specs.Limits.{LimitsView};
-ghost use Rattle.redo_tree.specs.Tree.{IsTree, Tree};
+ghost use Rattle.redo_run.specs.declared.exit.Exit.{Exit};
+ghost use Rattle.redo_run.specs.declared.options.Options.{Options};
+ghost use Rattle.redo_tree.specs.Tree.{IsTree, Tree, file_at};
+ghost use Rattle.redo_which.specs.Candidates.{journal_path};
 
 use redo_past::laws::a_tree_has_one_past;
+use redo_reads::laws::results_rest_on_what_they_name;
 use redo_rules::laws::{books_are_true, true_books_skip_soundly};
 use redo_tree::laws::{a_tree_without_files_is_a_tree, no_other_file_is_taken_out};
 
@@ -24,4 +32,21 @@ pub fn keeping_is_sound()
     a_tree_has_one_past();
     a_tree_without_files_is_a_tree();
     no_other_file_is_taken_out();
+}
+
+/// What a run over a directory does depends on names and on the files that it looks into: of each tree with the same
+/// names that agrees on those, and has no journal, it is the same, whatever its other files contain. It goes on with the
+/// tree as it is, comes to the same report, book and exit, and takes the same steps.
+pub fn runs_rest_on_what_they_read()
+    ensures mended { (one two : Tree) → AreNamedAlike one two → file_at one journal_path ≡ None → MendsTo two two }
+    ensures built { (one two : Tree) (paths : List (List ℕ)) (options : Options) (report : Report) (book : List ℕ)
+        (exit : Exit) → IsTree one → IsTree two → AreNamedAlike one two → AgreeOn paths one two →
+        HasRead paths one options report book exit → IsBuilt (to_build options two) options report book exit }
+    ensures steps { (one two : Tree) (paths : List (List ℕ)) (options : Options) (report : Report) (book : List ℕ)
+        (exit : Exit) → AreNamedAlike one two → AgreeOn paths one two → file_at one journal_path ≡ None →
+        HasRead paths one options report book exit → steps_of two two report book ≡ steps_of one one report book }
+{
+    results_rest_on_what_they_name();
+    keeping_is_sound();
+    a_tree_without_files_is_a_tree();
 }
