@@ -12,6 +12,8 @@ use Rattle.redo_past.specs.Past.{IsBookOf}
 use Rattle.redo_book.specs.declared.faults.BookFault.{BookFault}
 use Rattle.redo_book.specs.declared.faults.BookFault.TheVariants.{Line, Memory}
 use Rattle.redo_dir.specs.Own.{is_own}
+use Rattle.redo_dir.specs.Stored.{Step}
+use Rattle.redo_dir.specs.Storing.{steps_to_clear}
 use Rattle.redo_mend.specs.Recovered.{IsRecovered}
 
 -- the tree with this book's text in the book's place, without the own files of the run that wrote this journal
@@ -67,3 +69,9 @@ is_taken_out tree mended p =
 -- the files to clear away: those that are gone from the mended tree, in path order, the journal behind all others
 abbrev pub own_files : Tree → Tree → List (List ℕ)
 own_files tree mended = filter (is_taken_out tree mended) (keys_of tree) ++ journal_path ∷ []
+
+-- the steps by which what a broken-off run has left in a tree is cleared away before the mended one: none, where there is
+-- no journal; `over` says whether there is a book that the recovered one takes the place of
+abbrev pub clearing : Bool → Tree → Tree → List Step
+clearing over tree mended =
+    if is_some (file_at tree journal_path) then steps_to_clear over (book_to_put tree mended) (own_files tree mended) else []

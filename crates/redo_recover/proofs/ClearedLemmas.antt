@@ -12,9 +12,9 @@ use Rattle.redo_tree.proofs.KeptLemmas.{one_sorted}
 use Rattle.redo_tree.proofs.WithoutLemmas.{IsTree-without, file_at-without}
 use Rattle.redo_dir.specs.Stored.{Removes, Step}
 use Rattle.redo_which.specs.Candidates.{journal_path}
-use Rattle.redo_mend.specs.Mended.{IsPassedOver, IsRecoveredTree, MendsTo, book_to_put, is_taken_out, own_files}
+use Rattle.redo_mend.specs.Mended.{IsPassedOver, IsRecoveredTree, MendsTo, book_to_put, clearing, is_taken_out, own_files}
 use Rattle.redo_mend.proofs.MendLemmas.{book-over, own-over}
-use Rattle.redo_recover.specs.Steps.{IsFound, IsOfOthers, MayHold, after_steps, clearing, is_free, named_by}
+use Rattle.redo_recover.specs.Steps.{IsFound, IsOfOthers, MayHold, after_steps, is_free, named_by}
 use Rattle.redo_dir.specs.Storing.{steps_to_clear}
 use Rattle.redo_recover.proofs.ClearLemmas.{all-cleared, over-cleared, still-mends}
 use Rattle.redo_recover.proofs.StepLemmas.{Clears, both-all, clear-parts, cut-last, front-all, named-append, puts_book}

@@ -15,10 +15,10 @@ use Rattle.redo_report.specs.declared.report.Report.{Report}
 use Rattle.redo_rules.specs.Build.{GivenView}
 use Rattle.redo_rules.specs.Results.{IsResult}
 use Rattle.redo_dir.specs.Own.{is_own, is_temporary}
-use Rattle.redo_mend.specs.Mended.{MendsTo}
+use Rattle.redo_mend.specs.Mended.{MendsTo, clearing}
 use Rattle.redo_mend.proofs.OwnLemmas.{book-other, journal-other}
 use Rattle.redo_recover.specs.Broken.{IsBrokenOff, IsLeftAt, IsStart, journal_of}
-use Rattle.redo_recover.specs.Steps.{IsFinished, IsFound, IsOfOthers, IsStage, IsToStore, MayHold, Places, after_step, after_steps, clearing, is_free, named_by}
+use Rattle.redo_recover.specs.Steps.{IsFinished, IsFound, IsOfOthers, IsStage, IsToStore, MayHold, Places, after_step, after_steps, is_free, named_by}
 use Rattle.redo_dir.specs.Storing.{steps_to_store}
 use Rattle.redo_recover.proofs.ClearedLemmas.{all-leave, all-unnamed, front-mends, holds-just, mends-same}
 use Rattle.redo_recover.proofs.StepLemmas.{after-append, cut-last, cut-puts, cut-two, named-append, puts-at, puts-named}

@@ -1,17 +1,16 @@
 -- What a directory holds after some steps of storing. That the system does what it answers well is the premise here: no
 -- contract says it. A step that it hasn't answered yet was done or wasn't.
-use Rattle.std.specs.Prelude.{◌≡◌, ◌≢◌, ◌↔◌, ◌⊎◌, ℕ, Bool, false, List, [], Option, Some, None, MatchOption}
-use Rattle.std.specs.Prelude.{All, bytes_eq, fold, if◌then◌else◌, is_some}
+use Rattle.std.specs.Prelude.{◌≡◌, ◌≢◌, ◌↔◌, ◌⊎◌, ℕ, Bool, false, List, Option, Some, None, MatchOption}
+use Rattle.std.specs.Prelude.{All, bytes_eq, fold, if◌then◌else◌}
 use Rattle.redo_tree.specs.Tree.{Directory, File, IsTree, Node, Tree, file_at, node_at}
 use Rattle.redo_dir.specs.Stored.{Finishes, Journals, Puts, Removes, Step}
-use Rattle.redo_dir.specs.Storing.{steps_to_clear}
 use Rattle.redo_which.specs.Candidates.{book_path, journal_path}
 use Rattle.redo_book.specs.Book.{IsText, Record}
 use Rattle.redo_report.specs.declared.report.Report.{Report}
 use Rattle.redo_rules.specs.Build.{GivenView}
 use Rattle.redo_rules.specs.Results.{IsResult}
 use Rattle.redo_dir.specs.Own.{is_own, is_temporary}
-use Rattle.redo_mend.specs.Mended.{IsRecoveredTree, MendsTo, book_to_put, own_files}
+use Rattle.redo_mend.specs.Mended.{IsRecoveredTree, MendsTo}
 use Rattle.redo_recover.specs.Broken.{IsBrokenOff, IsLeftAt, MayStore, journal_of}
 
 -- what is at each path of a directory
@@ -52,11 +51,6 @@ pub record MayHold (named : Option (List ℕ)) (tree : Tree) (steps : List Step)
   pub is_tree : IsTree now
   pub at : (p : List ℕ) → is_free (named_by named steps) p ≡ false → node_at now p ≡ after_steps (node_at tree) steps p
   pub directories : (p : List ℕ) → (node_at now p ≡ Some Directory) ↔ (after_steps (node_at tree) steps p ≡ Some Directory)
-
--- what is cleared away of a tree before the mended one: nothing, where there is no journal
-abbrev pub clearing : Bool → Tree → Tree → List Step
-clearing over tree mended =
-    if is_some (file_at tree journal_path) then steps_to_clear over (book_to_put tree mended) (own_files tree mended) else []
 
 -- the files are some that the run built, none of them the program's own
 pub record IsToStore (given : GivenView) (result : Report) (is : IsResult given result) (file : List ℕ × List ℕ) : Type 0 where

@@ -15,12 +15,12 @@ ghost use Rattle.redo_rules.specs.TreeSources.{AreTrueOfTrees, HasHonestBook, Is
 ghost use Rattle.redo_dir.specs.Stored.{Journals, Step, puts_in};
 ghost use Rattle.redo_dir.specs.Storing.{steps_to_store};
 ghost use Rattle.redo_dir.specs.Own.{is_own, is_temporary};
-ghost use Rattle.redo_mend.specs.Mended.{IsNoBook, MendsTo};
+ghost use Rattle.redo_mend.specs.Mended.{IsNoBook, MendsTo, clearing};
 ghost use Rattle.redo_mend.specs.Recovered.{IsRecovered, recovered_at};
 ghost use Rattle.redo_recover.specs.Broken.{AreHonestWhereSaid, BreakOff, GoesOn, IsBrokenOff, IsStart};
 ghost use Rattle.redo_recover.specs.Broken.{MayStore, journal_of};
 ghost use Rattle.redo_recover.specs.Opening.{AreTwins, Opens, StayTwins};
-ghost use Rattle.redo_recover.specs.Steps.{IsFinished, IsFound, IsOfOthers, IsStage, IsToStore, MayHold, clearing};
+ghost use Rattle.redo_recover.specs.Steps.{IsFinished, IsFound, IsOfOthers, IsStage, IsToStore, MayHold};
 
 use redo_book::laws::{a_book_has_no_fault, a_text_has_one_book, each_text_is_a_book_or_refused};
 use redo_past::laws::a_tree_has_one_past;

@@ -1,1 +1,2 @@
+pub mod KilledLemmas
 pub mod NextLemmas

@@ -1,1 +1,2 @@
+pub mod Killed
 pub mod Resuming

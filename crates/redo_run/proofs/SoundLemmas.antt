@@ -176,7 +176,7 @@ module _ (s : Sources) (k : Checks) (request : List (List ℕ)) (limit : ℕ) (s
 
 -- ---- the files but the book
 
-others-of : (files : List (List ℕ × List ℕ)) (text : List ℕ) → but_book (with_file files book_path text) ≡ but_book files
+pub others-of : (files : List (List ℕ × List ℕ)) (text : List ℕ) → but_book (with_file files book_path text) ≡ but_book files
 others-of [] text = refl
 others-of (f ∷ files) text =
     (elim (slice_cmp nat_cmp book_path f.0) as (λ (v : Ordering). slice_cmp nat_cmp book_path f.0 ≡ v →

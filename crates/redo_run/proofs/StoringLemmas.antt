@@ -5,7 +5,7 @@ use Rattle.std.proofs.Common.{append_assoc, arith, length, map, refl, subst, sym
 use Rattle.std.proofs.lemmas.List.{map-append}
 use Rattle.std.proofs.Math.Seq.{take-append-add}
 use Rattle.std.specs.Option.{option_map_or}
-use Rattle.std.specs.Prelude.{IfSome, IsUtf8, is_some, option_map, slice_get}
+use Rattle.std.specs.Prelude.{IfSome, IsUtf8, if◌then◌else◌, is_some, option_map, slice_get}
 use Rattle.std.specs.declared.io.ErrorKind.{ErrorKind}
 use Rattle.std.specs.declared.io.ErrorKind.TheVariants.{OutOfMemory}
 use Rattle.redo_path.proofs.ApartLemmas.{apart}
@@ -135,9 +135,9 @@ new_is_part told left new before mid after _ m h = absurd h
 
 -- what is planned to be cleared away is what a broken-off run has left
 pub left_is_cleared : (loaded mended : Tree) (over : Bool) (left : Option Left) → over ≡ is_some (file_at loaded book_path) → option_map (λ l. l.journal) left ≡ file_at loaded journal_path → IfSome left (λ l. l.book ≡ book_to_put loaded mended) → IfSome left (λ l. l.own.items ≡ own_files loaded mended) → option_map_or (λ l. steps_to_clear over l.book l.own.items) left [] ≡ clearing loaded mended
-left_is_cleared loaded mended over None o j b w = subst (λ file. [] ≡ option_map_or (λ text. steps_to_clear (is_some (file_at loaded book_path)) (book_to_put loaded mended) (own_files loaded mended)) file []) j refl
+left_is_cleared loaded mended over None o j b w = subst (λ file. [] ≡ (if is_some file then steps_to_clear (is_some (file_at loaded book_path)) (book_to_put loaded mended) (own_files loaded mended) else [])) j refl
 left_is_cleared loaded mended over (Some l) o j b w =
-    subst (λ file. steps_to_clear over l.book l.own.items ≡ option_map_or (λ text. steps_to_clear (is_some (file_at loaded book_path)) (book_to_put loaded mended) (own_files loaded mended)) file []) j
+    subst (λ file. steps_to_clear over l.book l.own.items ≡ (if is_some file then steps_to_clear (is_some (file_at loaded book_path)) (book_to_put loaded mended) (own_files loaded mended) else [])) j
     (ap (λ x. steps_to_clear x l.book l.own.items) o ∙ ap (λ x. steps_to_clear (is_some (file_at loaded book_path)) x l.own.items) b
     ∙ ap (steps_to_clear (is_some (file_at loaded book_path)) (book_to_put loaded mended)) w)
 

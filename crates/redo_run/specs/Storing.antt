@@ -2,13 +2,13 @@
 use Rattle.std.specs.Prelude.{◌≡◌, ◌++◌, ◌⊎◌, Bool, not, IsUtf8, ℕ, List, [], ◌∷◌, Option, Some, None, filter}
 use Rattle.std.specs.Prelude.{if◌then◌else◌, is_some, nat_eq, slice_get, take}
 use Rattle.std.specs.Cmp.Lexicographic.{pointwise}
-use Rattle.std.specs.Option.{option_eq, option_map_or}
+use Rattle.std.specs.Option.{option_eq}
 use Rattle.std.specs.declared.io.ErrorKind.{ErrorKind}
 use Rattle.redo_tree.specs.Tree.{Tree, file_at}
 use Rattle.redo_which.specs.Candidates.{book_path, journal_path}
 use Rattle.redo_dir.specs.Stored.{Finishes, Journals, Puts, Removes, Step}
-use Rattle.redo_dir.specs.Storing.{steps_to_clear, steps_to_store}
-use Rattle.redo_mend.specs.Mended.{book_to_put, own_files}
+use Rattle.redo_dir.specs.Storing.{steps_to_store}
+use Rattle.redo_mend.specs.Mended.{clearing as clearing_over}
 
 -- the tree has the file as it is
 abbrev pub stands_in : Tree → List ℕ × List ℕ → Bool
@@ -36,9 +36,7 @@ storing tree (Some (book, files)) = steps_to_store tree book files
 -- the steps by which is cleared away what a broken-off run has left in a tree that was loaded, which is mended so: none
 -- where it has no journal
 abbrev pub clearing : Tree → Tree → List Step
-clearing loaded mended =
-    option_map_or (λ text. steps_to_clear (is_some (file_at loaded book_path)) (book_to_put loaded mended) (own_files loaded mended))
-    (file_at loaded journal_path) []
+clearing loaded mended = clearing_over (is_some (file_at loaded book_path)) loaded mended
 
 -- the path at which a step is done
 abbrev pub path_of : Step → List ℕ
