@@ -4,6 +4,7 @@ use Rattle.std.proofs.Common.{◌&&◌, refl, sym, ap, subst, ◌∙◌, Global}
 use Rattle.std.specs.Prelude.{is_none, is_some, Box}
 use Rattle.std.specs.declared.vec.Vec.{Vec}
 use Rattle.std.proofs.lemmas.Bool.{and_from, cases_Bool}
+use Rattle.redo_build.proofs.QueueLemmas.{filter-keeps}
 use Rattle.redo_record.specs.declared.deps.Dep.{Dep}
 use Rattle.redo_record.specs.declared.outcome.Outcome.{Outcome}
 use Rattle.redo_step.specs.declared.job.Done.{Done}
@@ -47,14 +48,7 @@ none_passes f (p ∷ ps) h = elim (cases_Bool (f p)) [
 ]
 
 one_passes : (f : List ℕ → Bool) (ps : List (List ℕ)) (q : List ℕ) → IsAmong ps q → f q ≡ true → filter f ps ≡ [] → ⊥
-one_passes f [] q m t e = m
-one_passes f (p ∷ ps) q m t e = elim (cases_Bool (f p)) [
-  | inl passes ↦ let now = rw passes at e in cc
-  | inr not_it ↦ elim m [
-    | inl same ↦ let P : List ℕ → Type 0 = λ x. f x ≡ true in let bad = subst P (sym same) t in let both = sym not_it ∙ bad in cc
-    | inr later ↦ one_passes f ps q later t (rw not_it at e)
-  ]
-]
+one_passes f ps q m t e = let P : List (List ℕ) → Type 0 = λ xs. IsAmong xs q in subst P e (filter-keeps f ps q m t)
 
 none_is : (o : Option Outcome) → is_none o ≡ true → o ≡ None
 none_is None h = refl

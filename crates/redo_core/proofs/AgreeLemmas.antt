@@ -4,61 +4,46 @@ use Rattle.std.proofs.Common.{◌∷◌, length, length-set, filter, Some, refl,
 use Rattle.std.proofs.lemmas.Bool.{cases_Bool}
 use Rattle.std.proofs.lemmas.List.Sums.{sum_by-cons}
 use Rattle.redo_build.specs.Rules.{Rules}
-use Rattle.redo_table.specs.Schedule.{StageView, is_out}
-use Rattle.redo_table.specs.Schedule.StageView.{Due as AtDue, Ready as AtReady, Out as AtOut, InHand as AtHand}
-use Rattle.redo_table.specs.Schedule.StageView.{Waiting as AtWaiting, Decided as AtDecided}
-use Rattle.redo_table.proofs.TargetLemmas.{get-other, set-cases, there-below}
-use Rattle.redo_core.specs.inside.Slots.{Agrees, AreAgreed, is_stage_decided, is_stage_due, is_stage_out, is_stage_ready}
-use Rattle.redo_core.specs.declared.table.Slot.{Slot}
-use Rattle.redo_core.specs.declared.table.Stage.{Stage}
-use Rattle.redo_core.specs.declared.table.Stage.TheVariants.{Due, Checking, Waiting, Ready, Out, Decided}
+use Rattle.redo_table.specs.Schedule.{StageView, is_decided, is_due, is_out, is_ready}
+use Rattle.redo_table.specs.Schedule.StageView.{Due as AtDue, Ready as AtReady, InHand as AtHand}
+use Rattle.redo_table.specs.Schedule.StageView.{Decided as AtDecided}
+use Rattle.redo_table.proofs.ListedLemmas.{due-is, ready-is}
+use Rattle.redo_table.proofs.TargetLemmas.{decided-is, get-other, set-cases, there-below}
+use Rattle.redo_core.specs.inside.Slots.{Agrees, AreAgreed, is_stage_decided, is_stage_due, is_stage_out}
+use Rattle.redo_core.specs.inside.Slots.{is_stage_ready, is_waiting, is_stage_waiting, Slot, Stage, Checking}
+use Rattle.redo_core.specs.inside.Slots.{Waiting, Out}
 use Rattle.std.proofs.lemmas.Option.{slice_get_within}
 
 module _ (r : Rules) (ps : List (List ℕ)) where
-  pub agrees-decided : (stage : Stage) (s : StageView) → Agrees r ps stage s → s ≡ AtDecided → is_stage_decided stage ≡ true
-  agrees-decided (Due held) s h is = let bad : AtDue ≡ AtDecided = sym h ∙ is in cc
-  agrees-decided (Checking awaiting) s h is = let bad : AtWaiting (h.0 ∷ []) ≡ AtDecided = sym h.1 ∙ is in cc
-  agrees-decided (Waiting begun) s h is = let bad : AtWaiting h.0 ≡ AtDecided = sym h.1 ∙ is in cc
-  agrees-decided (Ready work) s h is = let bad : AtReady ≡ AtDecided = sym h ∙ is in cc
-  agrees-decided Out s h is = elim h [
-    | inl out ↦ let bad : AtOut ≡ AtDecided = sym out ∙ is in cc
-    | inr hand ↦ let bad : AtHand ≡ AtDecided = sym hand ∙ is in cc
+  -- where they agree they pass the same tests
+  pub agrees-tests : (stage : Stage) (s : StageView) → Agrees r ps stage s →
+      (is_decided s ≡ is_stage_decided stage) × (is_ready s ≡ is_stage_ready stage) × (is_due s ≡ is_stage_due stage) ×
+      (is_waiting s ≡ is_stage_waiting stage)
+  agrees-tests (Checking awaiting) s h = (ap is_decided h.1, ap is_ready h.1, ap is_due h.1, ap is_waiting h.1)
+  agrees-tests (Waiting begun) s h = (ap is_decided h.1, ap is_ready h.1, ap is_due h.1, ap is_waiting h.1)
+  agrees-tests Out s h = elim h [
+    | inl out ↦ (ap is_decided out, ap is_ready out, ap is_due out, ap is_waiting out)
+    | inr hand ↦ (ap is_decided hand, ap is_ready hand, ap is_due hand, ap is_waiting hand)
   ]
-  agrees-decided (Decided fact) s h is = refl
+  agrees-tests _ s h = (ap is_decided h, ap is_ready h, ap is_due h, ap is_waiting h)
+
+  pub agrees-decided : (stage : Stage) (s : StageView) → Agrees r ps stage s → s ≡ AtDecided → is_stage_decided stage ≡ true
+  agrees-decided stage s h is = sym (agrees-tests stage s h).0 ∙ ap is_decided is
 
   pub decided-agrees : (stage : Stage) (s : StageView) → Agrees r ps stage s → is_stage_decided stage ≡ true → s ≡ AtDecided
-  decided-agrees (Decided fact) s h is = h
-  decided-agrees _ s h is = cc
+  decided-agrees stage s h is = decided-is s ((agrees-tests stage s h).0 ∙ is)
 
   pub agrees-ready : (stage : Stage) (s : StageView) → Agrees r ps stage s → s ≡ AtReady → is_stage_ready stage ≡ true
-  agrees-ready (Due held) s h is = let bad : AtDue ≡ AtReady = sym h ∙ is in cc
-  agrees-ready (Checking awaiting) s h is = let bad : AtWaiting (h.0 ∷ []) ≡ AtReady = sym h.1 ∙ is in cc
-  agrees-ready (Waiting begun) s h is = let bad : AtWaiting h.0 ≡ AtReady = sym h.1 ∙ is in cc
-  agrees-ready (Ready work) s h is = refl
-  agrees-ready Out s h is = elim h [
-    | inl out ↦ let bad : AtOut ≡ AtReady = sym out ∙ is in cc
-    | inr hand ↦ let bad : AtHand ≡ AtReady = sym hand ∙ is in cc
-  ]
-  agrees-ready (Decided fact) s h is = let bad : AtDecided ≡ AtReady = sym h ∙ is in cc
+  agrees-ready stage s h is = sym (agrees-tests stage s h).1 ∙ ap is_ready is
 
   pub ready-agrees : (stage : Stage) (s : StageView) → Agrees r ps stage s → is_stage_ready stage ≡ true → s ≡ AtReady
-  ready-agrees (Ready work) s h is = h
-  ready-agrees _ s h is = cc
+  ready-agrees stage s h is = ready-is s ((agrees-tests stage s h).1 ∙ is)
 
   pub agrees-due : (stage : Stage) (s : StageView) → Agrees r ps stage s → s ≡ AtDue → is_stage_due stage ≡ true
-  agrees-due (Due held) s h is = refl
-  agrees-due (Checking awaiting) s h is = let bad : AtWaiting (h.0 ∷ []) ≡ AtDue = sym h.1 ∙ is in cc
-  agrees-due (Waiting begun) s h is = let bad : AtWaiting h.0 ≡ AtDue = sym h.1 ∙ is in cc
-  agrees-due (Ready work) s h is = let bad : AtReady ≡ AtDue = sym h ∙ is in cc
-  agrees-due Out s h is = elim h [
-    | inl out ↦ let bad : AtOut ≡ AtDue = sym out ∙ is in cc
-    | inr hand ↦ let bad : AtHand ≡ AtDue = sym hand ∙ is in cc
-  ]
-  agrees-due (Decided fact) s h is = let bad : AtDecided ≡ AtDue = sym h ∙ is in cc
+  agrees-due stage s h is = sym (agrees-tests stage s h).2 ∙ ap is_due is
 
   pub due-agrees : (stage : Stage) (s : StageView) → Agrees r ps stage s → is_stage_due stage ≡ true → s ≡ AtDue
-  due-agrees (Due held) s h is = h
-  due-agrees _ s h is = cc
+  due-agrees stage s h is = due-is s ((agrees-tests stage s h).2 ∙ is)
 
   -- what isn't in hand is out where its slot is
   out-agrees : (stage : Stage) (s : StageView) → Agrees r ps stage s → (s ≡ AtHand → ⊥) → is_out s ≡ is_stage_out stage

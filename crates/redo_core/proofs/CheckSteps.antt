@@ -47,6 +47,7 @@ use Rattle.redo_core.proofs.CheckingLemmas.{falls-behind, none-behind}
 use Rattle.redo_skip.proofs.NewBookLemmas.{found-target}
 use Rattle.redo_skip.proofs.StoodLemmas.{always, answered-path, asked-at, asked-on, asks-path, not-falling, plus-one}
 use Rattle.redo_skip.proofs.StoodLemmas.{stood-more, stood-none, stood-on, unasked}
+use Rattle.redo_core.proofs.NumberLemmas.{same-some}
 
 -- ---- records of the book
 
@@ -152,8 +153,7 @@ walked-more s es from i e alone there is k x g l h = elim (cases_lt k i) [
   | inl below ↦ alone k x g below h
   | inr above ↦
       let at : k ≡ i = omega (arith, l, above) in
-      let both : Some x ≡ Some e = sym h ∙ ap (slice_get es) at ∙ there in
-      let same : x ≡ e = cc in
+      let same : x ≡ e = same-some _ _ _ h (ap (slice_get es) at ∙ there) in
       ap (standing s nothing_known) same ∙ is
 ]
 

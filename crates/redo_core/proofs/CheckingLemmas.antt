@@ -110,7 +110,7 @@ module _ (given : GivenView) (p : List ℕ) where
     entries-made k = ap entries_of_record k.there
 
     -- what it knows by the answers to what it asked for, of an ask
-    abbrev known : Ask → Ask
+    abbrev pub known : Ask → Ask
     known a = only (operands (rules_for given) c.asked) a
 
     knows : (a : Ask) (qs : List (List ℕ)) → c.asked ≡ asking qs → (q : List ℕ) → IsAmong qs q → (sources_for given).is_source q ≡ false → a q ≡ known a q
@@ -175,34 +175,28 @@ module _ (given : GivenView) (p : List ℕ) where
         let one = due-next a due q next in
         new-path s (entries_in given c) c.stood one.0 q (subst (IsDistinct same_entry) (sym (entries-made due.in_check)) due.in_check.once) one.1
 
-    -- it asks for the next path
-    due-lacking : (a : Ask) → IsDueCheck given p a c → (q : List ℕ) → asks_next given c ≡ Some q →
-        ((rules_for given).progress p (known a) ≡ record { outcome = None; deps = with_entry c.asked kinds.Change q }) ×
-        ((rules_for given).begins p (known a) ≡ false)
-    due-lacking a due q next =
+    -- it asks for the next path, which is no source and wasn't asked for
+    pub due-asks : (a : Ask) → IsDueCheck given p a c → (q : List ℕ) → asks_next given c ≡ Some q →
+        ((rules_for given).progress p (only (operands (rules_for given) c.asked) a) ≡ record { outcome = None; deps = with_entry c.asked kinds.Change q }) ×
+        ((rules_for given).begins p (only (operands (rules_for given) c.asked) a) ≡ false) ×
+        ((rules_for given).is_source q ≡ false) × (IsAmong (operands (rules_for given) c.asked) q → ⊥)
+    due-asks a due q next =
         let one = due-next a due q next in
         let qs = asked_by s (take c.stood (entries_in given c)) in
         let none : known a q ≡ None = knows-none a qs due.asked q (due-new a due q next) in (
           lacking-progress due.in_check (known a) one.0 q (due-stood a due) one.1 one.2 none ∙
               ap (λ d. record { outcome = None; deps = d }) (asking-more qs q ∙ ap (λ d. with_entry d kinds.Change q) (sym due.asked)),
           lacking-begins due.in_check (known a) one.0 q (due-stood a due) one.1 one.2 none,
+          (not-or (s.is_source q) (s.is_script q) one.2).0,
+          λ m. due-new a due q next (asked-out s.is_source qs q (subst (λ d. IsAmong (operands (rules_for given) d) q) due.asked m)),
         )
 
-    -- which is no source
-    due-target : (a : Ask) → IsDueCheck given p a c → (q : List ℕ) → asks_next given c ≡ Some q → (rules_for given).is_source q ≡ false
-    due-target a due q next = (not-or (s.is_source q) (s.is_script q) (due-next a due q next).2).0
-
-    -- and no operand yet
-    due-other : (a : Ask) → IsDueCheck given p a c → (q : List ℕ) → asks_next given c ≡ Some q → IsAmong (operands (rules_for given) c.asked) q → ⊥
-    due-other a due q next m =
-        due-new a due q next (asked-out s.is_source (asked_by s (take c.stood (entries_in given c))) q (subst (λ d. IsAmong (operands (rules_for given) d) q) due.asked m))
-
     -- the target is kept where all entries stand
-    due-keeping : (a : Ask) → IsDueCheck given p a c → asks_next given c ≡ None →
-        ((rules_for given).progress p (known a) ≡ built (file_at given.past.tree p) c.asked) ×
-        ((rules_for given).begins p (known a) ≡ false) ×
-        ((rules_for given).recorded p (known a) ≡ map shown (entries_in given c))
-    due-keeping a due next =
+    pub due-kept : (a : Ask) → IsDueCheck given p a c → asks_next given c ≡ None →
+        ((rules_for given).progress p (only (operands (rules_for given) c.asked) a) ≡ built (file_at given.past.tree p) c.asked) ×
+        ((rules_for given).begins p (only (operands (rules_for given) c.asked) a) ≡ false) ×
+        ((rules_for given).recorded p (only (operands (rules_for given) c.asked) a) ≡ map shown (entries_in given c))
+    due-kept a due next =
         let k = due.in_check in
         let es = entries_in given c in
         let end = due-end a due next in
@@ -217,8 +211,8 @@ module _ (given : GivenView) (p : List ℕ) where
 
     -- ---- a check that waits
 
-    waits-asked : (a : Ask) (q : List ℕ) → IsWaitingCheck given p a q c → IsAmong (operands (rules_for given) c.asked) q
-    waits-asked a q waits =
+    pub waiting-asked : (a : Ask) (q : List ℕ) → IsWaitingCheck given p a q c → IsAmong (operands (rules_for given) c.asked) q
+    waiting-asked a q waits =
         let qs = asked_by s (take c.stood (entries_in given c)) in
         subst (λ d. IsAmong (operands (rules_for given) d) q) (sym waits.asked)
         (asked-in s.is_source (qs ++ q ∷ []) q (IsAmong-right qs (q ∷ []) q (inl refl)) (not-or (s.is_source q) (s.is_script q) waits.asks).0)
@@ -233,8 +227,8 @@ module _ (given : GivenView) (p : List ℕ) where
         (asked-in s.is_source (qs ++ q ∷ []) x (IsAmong-left qs (q ∷ []) x m) (asked-target s (take c.stood es) x m)))
         (λ same. new-path s es c.stood waits.state q (subst (IsDistinct same_entry) (sym (entries-made waits.in_check)) waits.in_check.once) waits.awaited (subst (IsAmong qs) same m)))
 
-    waits-moved : (a b : Ask) (q : List ℕ) → IsWaitingCheck given p a q c → ((x : List ℕ) → IsAmong (operands (rules_for given) c.asked) x → (x ≡ q → ⊥) → a x ≡ b x) → IsWaitingCheck given p b q c
-    waits-moved a b q waits alike = record {
+    pub waiting-moves : (a b : Ask) (q : List ℕ) → IsWaitingCheck given p a q c → ((x : List ℕ) → IsAmong (operands (rules_for given) c.asked) x → (x ≡ q → ⊥) → a x ≡ b x) → IsWaitingCheck given p b q c
+    waiting-moves a b q waits alike = record {
       in_check = waits.in_check;
       stood = waiting-stood a b q waits alike;
       state = waits.state;
@@ -243,8 +237,8 @@ module _ (given : GivenView) (p : List ℕ) where
       asked = waits.asked;
     }
 
-    due-moved : (a b : Ask) → IsDueCheck given p a c → TellsAlike (rules_for given) c.asked a b → IsDueCheck given p b c
-    due-moved a b due alike = record {
+    pub due-moves : (a b : Ask) → IsDueCheck given p a c → TellsAlike (rules_for given) c.asked a b → IsDueCheck given p b c
+    due-moves a b due alike = record {
       in_check = due.in_check;
       stood =
           let es = entries_in given c in
@@ -255,11 +249,11 @@ module _ (given : GivenView) (p : List ℕ) where
     }
 
     -- while its path has no answer it asks for nothing more
-    waits-shown : (a : Ask) (q : List ℕ) → IsWaitingCheck given p a q c → (b : Ask) → ((x : List ℕ) → IsAmong (operands (rules_for given) c.asked) x → (x ≡ q → ⊥) → a x ≡ b x) → b q ≡ None →
+    pub waiting-shows : (a : Ask) (q : List ℕ) → IsWaitingCheck given p a q c → (b : Ask) → ((x : List ℕ) → IsAmong (operands (rules_for given) c.asked) x → (x ≡ q → ⊥) → a x ≡ b x) → b q ≡ None →
         ((rules_for given).progress p b ≡ record { outcome = None; deps = c.asked }) ×
         ((rules_for given).begins p b ≡ false) ×
         ((rules_for given).recorded p b ≡ seen_entries given c)
-    waits-shown a q waits b alike none =
+    waiting-shows a q waits b alike none =
         let stood = waiting-stood a b q waits alike in (
           lacking-progress waits.in_check b waits.state q stood waits.awaited waits.asks none ∙ ap (λ d. record { outcome = None; deps = d }) (sym waits.asked),
           lacking-begins waits.in_check b waits.state q stood waits.awaited waits.asks none,
@@ -267,8 +261,8 @@ module _ (given : GivenView) (p : List ℕ) where
         )
 
   -- a due check that asks for the next path waits for it
-  due-waiting : (a : Ask) (q : List ℕ) (c : Check) → IsDueCheck given p a c → asks_next given c ≡ Some q → IsWaitingCheck given p a q (record c { asked = with_entry c.asked kinds.Change q })
-  due-waiting a q c due next =
+  pub due-waits : (a : Ask) (q : List ℕ) (c : Check) → IsDueCheck given p a c → asks_next given c ≡ Some q → IsWaitingCheck given p a q (record c { asked = with_entry c.asked kinds.Change q })
+  due-waits a q c due next =
       let one = due-next c a due q next in
       record {
         in_check = due.in_check;
@@ -279,48 +273,10 @@ module _ (given : GivenView) (p : List ℕ) where
         asked = ap (λ d. with_entry d kinds.Change q) due.asked ∙ sym (asking-more (asked_by s (take c.stood (entries_in given c))) q);
       }
 
--- ---- what the board's proofs cite
-
--- under another ask that tells alike
-pub due-moves : (given : GivenView) (p : List ℕ) (a b : Ask) (c : Check) → IsDueCheck given p a c → TellsAlike (rules_for given) c.asked a b → IsDueCheck given p b c
-due-moves given p a b c = due-moved given p c a b
-
-pub waiting-moves : (given : GivenView) (p : List ℕ) (a b : Ask) (q : List ℕ) (c : Check) → IsWaitingCheck given p a q c → ((x : List ℕ) → IsAmong (operands (rules_for given) c.asked) x → (x ≡ q → ⊥) → a x ≡ b x) → IsWaitingCheck given p b q c
-waiting-moves given p a b q c = waits-moved given p c a b q
-
+-- what is begun behind a check stays so
 pub behind-moves : (given : GivenView) (p : List ℕ) (asked : List Dep) (a b : Ask) → IsBegunBehind given p asked a → TellsAlike (rules_for given) asked a b → IsBegunBehind given p asked b
 behind-moves given p asked a b begun alike = record {
   begins = λ c more. begun.begins c (λ q m. alike q m ∙ more q m);
   progress = λ c more. begun.progress c (λ q m. alike q m ∙ more q m);
   recorded = λ c more. begun.recorded c (λ q m. alike q m ∙ more q m);
 }
-
--- a due check asks for the next path, which is no source and wasn't asked for
-pub due-asks : (given : GivenView) (p : List ℕ) (a : Ask) (c : Check) (q : List ℕ) → IsDueCheck given p a c → asks_next given c ≡ Some q →
-    ((rules_for given).progress p (only (operands (rules_for given) c.asked) a) ≡ record { outcome = None; deps = with_entry c.asked kinds.Change q }) ×
-    ((rules_for given).begins p (only (operands (rules_for given) c.asked) a) ≡ false) ×
-    ((rules_for given).is_source q ≡ false) × (IsAmong (operands (rules_for given) c.asked) q → ⊥)
-due-asks given p a c q due next =
-    let both = due-lacking given p c a due q next in
-    (both.0, both.1, due-target given p c a due q next, due-other given p c a due q next)
-
--- its target is kept where there is none
-pub due-kept : (given : GivenView) (p : List ℕ) (a : Ask) (c : Check) → IsDueCheck given p a c → asks_next given c ≡ None →
-    ((rules_for given).progress p (only (operands (rules_for given) c.asked) a) ≡ built (file_at given.past.tree p) c.asked) ×
-    ((rules_for given).begins p (only (operands (rules_for given) c.asked) a) ≡ false) ×
-    ((rules_for given).recorded p (only (operands (rules_for given) c.asked) a) ≡ map shown (entries_in given c))
-due-kept given p a c = due-keeping given p c a
-
--- it waits for the path once it asked for it
-pub due-waits : (given : GivenView) (p : List ℕ) (a : Ask) (c : Check) (q : List ℕ) → IsDueCheck given p a c → asks_next given c ≡ Some q → IsWaitingCheck given p a q (record c { asked = with_entry c.asked kinds.Change q })
-due-waits given p a c q = due-waiting given p a q c
-
-pub waiting-asked : (given : GivenView) (p : List ℕ) (a : Ask) (q : List ℕ) (c : Check) → IsWaitingCheck given p a q c → IsAmong (operands (rules_for given) c.asked) q
-waiting-asked given p a q c = waits-asked given p c a q
-
--- while that has no answer it asks for nothing more
-pub waiting-shows : (given : GivenView) (p : List ℕ) (a : Ask) (q : List ℕ) (c : Check) → IsWaitingCheck given p a q c →
-    (b : Ask) → ((x : List ℕ) → IsAmong (operands (rules_for given) c.asked) x → (x ≡ q → ⊥) → a x ≡ b x) → b q ≡ None →
-    ((rules_for given).progress p b ≡ record { outcome = None; deps = c.asked }) ×
-    ((rules_for given).begins p b ≡ false) × ((rules_for given).recorded p b ≡ seen_entries given c)
-waiting-shows given p a q c = waits-shown given p c a q

@@ -4,16 +4,14 @@ use Rattle.redo_record.specs.Paths.{AreDistinct}
 use Rattle.redo_sync.specs.Shown.{Shown}
 use Rattle.redo_build.specs.Schedule.{Entry, State, put}
 use Rattle.redo_build.specs.inside.Standing.{AreStanding}
-use Rattle.redo_rules.specs.Build.{GivenView, rules_for}
 use Rattle.redo_table.specs.Schedule.{ScheduleView, stage_at}
 use Rattle.redo_table.specs.Schedule.StageView.{InHand as AtHand, Decided as AtDecided}
 use Rattle.redo_core.specs.Views.{FactView}
-use Rattle.redo_core.specs.inside.Slots.{IsDecidedAt, IsConcludedAt, IsOutThere, IsPutBackThere, IsSettled, IsStandingTable, IsTableOf, MayConclude}
-use Rattle.redo_core.specs.inside.Slots.{concluded_entry, path_at, table_entries}
-use Rattle.redo_core.specs.declared.table.Slot.{Slot}
-use Rattle.redo_core.specs.declared.table.Stage.TheVariants.{Decided}
-use Rattle.redo_core.specs.declared.table.Table.{Table}
+use Rattle.redo_core.specs.inside.Slots.{IsDecidedAt, IsConcludedAt, IsOutThere, IsPutBackThere, IsSettled}
+use Rattle.redo_core.specs.inside.Slots.{IsStandingTable, IsTableOf, MayConclude, concluded_entry, path_at}
+use Rattle.redo_core.specs.inside.Slots.{table_entries, GivenView, rules_for, Slot, Decided, Table}
 use Rattle.redo_core.proofs.PutSteps.{put-entries, put-none_in_hand, decided-table}
+use Rattle.redo_core.proofs.NumberLemmas.{same-some}
 
 module _ (given : GivenView) (t u : Table) (at : ℕ) (fact : FactView) (may : MayConclude given t at fact)
     (known : Shown FactView) (same : known.value ≡ fact) (d : IsDecidedAt t u at known) where
@@ -51,8 +49,7 @@ module _ (given : GivenView) (t : Table) (at : ℕ) (fact : FactView) (slot : Sl
   leads-there : (x : Slot) → slice_get t.slots.items at ≡ Some x →
       put (table_entries given t) (concluded_entry given (path_at t.targets at) x fact) ≡ after.entries
   leads-there x here =
-      let both : Some x ≡ Some slot = sym here ∙ there in
-      let same : x ≡ slot = cc in
+      let same : x ≡ slot = same-some _ _ _ here there in
       ap (λ (y : Slot). put (table_entries given t) (concluded_entry given (path_at t.targets at) y fact)) same ∙ leads
 
   pub conclude-may : IsTableOf given t → AreDistinct t.targets → IsOutThere t at → ((k : ℕ) → stage_at t.schedule k ≡ Some AtHand → at ≡ k) →

@@ -8,13 +8,11 @@ use Rattle.redo_record.specs.Paths.{AreDistinct}
 use Rattle.redo_build.specs.Rules.{Rules}
 use Rattle.redo_build.specs.Schedule.{Entry, State, enqueued}
 use Rattle.redo_build.specs.inside.Standing.{AreStanding}
-use Rattle.redo_rules.specs.Build.{GivenView, rules_for}
 use Rattle.redo_table.specs.Schedule.{StageView, EachLacks, IsQueue, stage_at, times}
 use Rattle.redo_table.specs.Schedule.StageView.{InHand as AtHand, Ready as AtReady}
 use Rattle.redo_table.proofs.NumberLemmas.{times-append}
-use Rattle.redo_core.specs.inside.Slots.{AreEnqueued, IsPutBackThere, IsResting, IsTakenIn, IsTableOf, path_at, table_entries, table_state}
-use Rattle.redo_core.specs.declared.table.Slot.{Slot}
-use Rattle.redo_core.specs.declared.table.Table.{Table}
+use Rattle.redo_core.specs.inside.Slots.{AreEnqueued, IsPutBackThere, IsResting, IsTakenIn, IsTableOf, path_at}
+use Rattle.redo_core.specs.inside.Slots.{table_entries, table_state, GivenView, rules_for, Slot, Table}
 use Rattle.redo_core.proofs.EntryLemmas.{keys-distinct}
 use Rattle.redo_core.proofs.NewlyReadyLemmas.{newly_ready-paths}
 use Rattle.redo_core.proofs.PlaceLemmas.{IsPlace, increasing-ascends, place-times}

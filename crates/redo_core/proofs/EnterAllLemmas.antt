@@ -9,10 +9,8 @@ use Rattle.redo_names.proofs.PathLemmas.{told-among}
 use Rattle.redo_record.specs.declared.deps.Dep.{Dep}
 use Rattle.redo_record.specs.Paths.{IsAmong, is_among}
 use Rattle.redo_build.specs.Rules.{Rules, operands, changed}
-use Rattle.redo_rules.specs.Build.{GivenView, rules_for}
 use Rattle.redo_build.specs.Schedule.{Entry, paths_of, entered, new_entry}
-use Rattle.redo_core.specs.inside.Slots.{table_entries, AreEnteredInto}
-use Rattle.redo_core.specs.declared.table.Table.{Table}
+use Rattle.redo_core.specs.inside.Slots.{table_entries, AreEnteredInto, GivenView, rules_for, Table}
 use Rattle.redo_build.proofs.SeenLemmas.{entered-longer, paths_of-entered}
 
 pub entered-append : (r : Rules) (es : List Entry) (ps qs : List (List ℕ)) → entered r es (ps ++ qs) ≡ entered r (entered r es ps) qs
@@ -49,14 +47,20 @@ path-take (x ∷ ps) zero p h = let same : x ≡ p = cc in ap (λ y. y ∷ []) s
 path-take (x ∷ ps) (suc i) p h = let e : suc i + 1 ≡ suc (i + 1) = omega arith in rw e (ap (λ l. x ∷ l) (path-take ps i p h))
 
 -- where one passes the limit, all do
+pub too-many-behind : (r : Rules) (es mid : List Entry) (limit : ℕ) (front back : List (List ℕ)) (p : List ℕ) → mid ≡ entered r es front →
+    limit < length (entered r mid (p ∷ [])) → limit < length (entered r es ((front ++ p ∷ []) ++ back))
+too-many-behind r es mid limit front back p at many =
+    let so_far : entered r mid (p ∷ []) ≡ entered r es (front ++ p ∷ []) =
+    ap (λ xs. entered r xs (p ∷ [])) at ∙ sym (entered-append r es front (p ∷ [])) in
+    let all = entered-append r es (front ++ p ∷ []) back in
+    omega (arith, many, ap length so_far, ap length all, entered-longer r (entered r es (front ++ p ∷ [])) back)
+
 pub too-many : (r : Rules) (es mid : List Entry) (limit : ℕ) (ps : List (List ℕ)) (i : ℕ) (p : List ℕ) → slice_get ps i ≡ Some p →
     mid ≡ entered r es (take i ps) → limit < length (entered r mid (p ∷ [])) → limit < length (entered r es ps)
 too-many r es mid limit ps i p get at many =
-    let so_far : entered r mid (p ∷ []) ≡ entered r es (take (i + 1) ps) =
-    ap (λ xs. entered r xs (p ∷ [])) at ∙ sym (entered-append r es (take i ps) (p ∷ [])) ∙ ap (entered r es) (sym (path-take ps i p get)) in
-    let all : entered r es ps ≡ entered r (entered r es (take (i + 1) ps)) (drop (i + 1) ps) =
-    ap (entered r es) (sym (take-append-drop (i + 1) ps)) ∙ entered-append r es (take (i + 1) ps) (drop (i + 1) ps) in
-    omega (arith, many, ap length so_far, ap length all, entered-longer r (entered r es (take (i + 1) ps)) (drop (i + 1) ps))
+    let L : List (List ℕ) → Type 0 = λ xs. limit < length (entered r es xs) in
+    let whole = ap (λ xs. xs ++ drop (i + 1) ps) (sym (path-take ps i p get)) ∙ take-append-drop (i + 1) ps in
+    subst L whole (too-many-behind r es mid limit (take i ps) (drop (i + 1) ps) p at many)
 
 module _ (given : GivenView) where
   abbrev r : Rules

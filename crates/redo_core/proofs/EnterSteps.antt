@@ -6,19 +6,16 @@ use Rattle.std.proofs.Common.{◌∙◌, arith}
 use Rattle.std.proofs.lemmas.Bool.{cases_Bool}
 use Rattle.redo_record.specs.Paths.{IsAmong, is_among}
 use Rattle.redo_build.specs.Rules.{Ask, Rules, Extends, operands}
-use Rattle.redo_rules.specs.Build.{GivenView, rules_for}
 use Rattle.redo_build.specs.Schedule.{Entry, only, outcomes_of, paths_of, entered, new_entry, nothing_known}
 use Rattle.redo_record.specs.Progress.{Progress}
 use Rattle.redo_table.specs.Schedule.{StageView, ScheduleView, with_stage, with_target}
-use Rattle.redo_table.specs.Schedule.StageView.{Due as AtDue, Ready as AtReady, InHand as AtHand, Decided as AtDecided}
+use Rattle.redo_table.specs.Schedule.StageView.{InHand as AtHand}
 use Rattle.redo_table.proofs.TargetLemmas.{push-before, push-cases, there-below}
-use Rattle.redo_core.specs.inside.Slots.{outcomes_at_limit, table_entries, entries_from, slot_entries, slot_entry, stage_deps}
-use Rattle.redo_core.specs.inside.Slots.{stage_outcome, path_at, is_stage_out, Fits, Agrees, AreAgreed, first_in_schedule}
-use Rattle.redo_core.specs.inside.Slots.{AllFit, IsTable, IsTableOf, IsFirstStage, IsPushed, IsEnteredInto, IsFull}
-use Rattle.redo_core.specs.declared.table.Slot.{Slot}
-use Rattle.redo_core.specs.declared.table.Table.{Table}
-use Rattle.redo_core.specs.declared.table.Stage.{Stage}
-use Rattle.redo_core.specs.declared.table.Stage.TheVariants.{Due, Ready, Decided}
+use Rattle.redo_core.specs.inside.Slots.{outcomes_at_limit, table_entries, entries_from, slot_entries, slot_entry}
+use Rattle.redo_core.specs.inside.Slots.{stage_deps, stage_outcome, path_at, is_stage_out, Fits, Agrees, AreAgreed}
+use Rattle.redo_core.specs.inside.Slots.{in_schedule, is_fresh, AllFit, IsTable, IsTableOf, IsFirstStage, IsPushed}
+use Rattle.redo_core.specs.inside.Slots.{IsEnteredInto, IsFull, GivenView, rules_for, Slot, Table, Stage, Due, Ready}
+use Rattle.redo_core.specs.inside.Slots.{Decided}
 use Rattle.redo_core.proofs.NumberLemmas.{agrees-kept}
 use Rattle.redo_build.proofs.SeenLemmas.{outcomes_of-entry, outcomes_of-at, entry_of-entered_old}
 use Rattle.redo_core.proofs.SlotLemmas.{length-slots, paths_of-slots}
@@ -76,13 +73,12 @@ pushed-stage s n stage is = ap (λ ss. record s { stages = ss }) (ap (λ k. slic
     set-last [] = refl
     set-last (x ∷ xs) = ap (λ ys. x ∷ ys) (set-last xs)
 
--- the schedule has a path at first sight where its slot is: due, ready or decided
+-- the schedule has a path at first sight where its slot is
 stage-agrees : (given : GivenView) (ps : List (List ℕ)) (p : List ℕ) (stage : Stage) → IsFirstStage given p stage →
-    Agrees (rules_for given) ps stage (first_in_schedule stage) ×
-    ((first_in_schedule stage ≡ AtDue) ⊎ ((first_in_schedule stage ≡ AtReady) ⊎ (first_in_schedule stage ≡ AtDecided)))
-stage-agrees given ps p (Due held) h = (refl, inl refl)
-stage-agrees given ps p (Ready work) h = (refl, inr (inl refl))
-stage-agrees given ps p (Decided fact) h = (refl, inr (inr refl))
+    Agrees (rules_for given) ps stage (in_schedule stage) × (is_fresh (in_schedule stage) ≡ true)
+stage-agrees given ps p (Due held) h = (refl, refl)
+stage-agrees given ps p (Ready work) h = (refl, refl)
+stage-agrees given ps p (Decided fact) h = (refl, refl)
 stage-agrees given ps p _ h = absurd h
 
 -- a slot and its stage behind the others, with more paths
@@ -163,10 +159,10 @@ module _ (given : GivenView) (t u : Table) (p : List ℕ) (table : IsTableOf giv
             subst P (sym path) (Fits-more given (outcomes_of es) b (path_at t.targets k) x.turn x.stage more (table.fits k x old))
       ]
 
-  first-agrees : Agrees (rules_for given) (t.targets ++ p ∷ []) w.new.stage (first_in_schedule w.new.stage)
+  first-agrees : Agrees (rules_for given) (t.targets ++ p ∷ []) w.new.stage (in_schedule w.new.stage)
   first-agrees = (stage-agrees given (t.targets ++ p ∷ []) p w.new.stage w.first).0
 
-  table-push : IsTable (rules_for given) given (t.targets ++ p ∷ []) (t.slots.items ++ w.new ∷ []) (t.schedule.stages ++ first_in_schedule w.new.stage ∷ [])
+  table-push : IsTable (rules_for given) given (t.targets ++ p ∷ []) (t.slots.items ++ w.new ∷ []) (t.schedule.stages ++ in_schedule w.new.stage ∷ [])
   table-push =
       let len : length (t.slots.items ++ w.new ∷ []) ≡ length t.slots.items + 1 = length-append t.slots.items (w.new ∷ []) in
       let keys : length (t.targets ++ p ∷ []) ≡ length t.targets + 1 = length-append t.targets (p ∷ []) in
@@ -175,20 +171,17 @@ module _ (given : GivenView) (t u : Table) (p : List ℕ) (table : IsTableOf giv
         within_limit = omega (arith, len, room);
         few = table.few;
         fits = fits-push;
-        agreed = agreed-push r t.targets (t.targets ++ p ∷ []) t.slots.items t.schedule.stages w.new (first_in_schedule w.new.stage) table.agreed
+        agreed = agreed-push r t.targets (t.targets ++ p ∷ []) t.slots.items t.schedule.stages w.new (in_schedule w.new.stage) table.agreed
             (λ k q h. push-before t.targets k p q h) first-agrees;
       }
 
-  stage-push : u.schedule.stages ≡ t.schedule.stages ++ first_in_schedule w.new.stage ∷ []
+  stage-push : u.schedule.stages ≡ t.schedule.stages ++ in_schedule w.new.stage ∷ []
   stage-push = ap (λ (x : ScheduleView). x.stages) w.schedule
 
   stages-fresh : (k : ℕ) (s : StageView) → slice_get u.schedule.stages k ≡ Some s →
-      (slice_get t.schedule.stages k ≡ Some s) ⊎ ((s ≡ AtDue) ⊎ ((s ≡ AtReady) ⊎ (s ≡ AtDecided)))
-  stages-fresh k s h = elim (push-cases t.schedule.stages k (first_in_schedule w.new.stage) s (sym (ap (λ ss. slice_get ss k) stage-push) ∙ h)) [
-    | inl here ↦ inr (elim (stage-agrees given t.targets p w.new.stage w.first).1 [
-      | inl due ↦ inl (sym here.1 ∙ due)
-      | inr other ↦ elim other [ inl ready ↦ inr (inl (sym here.1 ∙ ready)) | inr decided ↦ inr (inr (sym here.1 ∙ decided)) ]
-    ])
+      (slice_get t.schedule.stages k ≡ Some s) ⊎ (is_fresh s ≡ true)
+  stages-fresh k s h = elim (push-cases t.schedule.stages k (in_schedule w.new.stage) s (sym (ap (λ ss. slice_get ss k) stage-push) ∙ h)) [
+    | inl here ↦ inr (ap is_fresh (sym here.1) ∙ (stage-agrees given t.targets p w.new.stage w.first).1)
     | inr old ↦ inl old
   ]
 
@@ -199,7 +192,7 @@ module _ (given : GivenView) (t u : Table) (p : List ℕ) (table : IsTableOf giv
     ready = ap (λ (x : ScheduleView). x.ready) w.schedule;
     keys_kept = λ k q h. rw w.keys (push-before t.targets k p q h);
     slots_kept = λ k x h. rw w.slots (push-before t.slots.items k w.new x h);
-    stages_kept = λ k s h. rw stage-push (push-before t.schedule.stages k (first_in_schedule w.new.stage) s h);
+    stages_kept = λ k s h. rw stage-push (push-before t.schedule.stages k (in_schedule w.new.stage) s h);
     fresh = stages-fresh;
   }
 

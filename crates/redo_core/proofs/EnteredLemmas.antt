@@ -1,16 +1,14 @@
 -- What stays as it is while paths are entered into a table.
-use Rattle.std.proofs.Common.{slice_get, ◌≡◌, ℕ, ◌<◌, inl, inr, List, length, Some, refl, sym, ap, subst, ◌∙◌, arith}
+use Rattle.std.proofs.Common.{slice_get, ◌≡◌, ℕ, ◌<◌, inl, inr, List, length, Some, refl, sym, ap, subst, ◌∙◌, arith, false, true}
 use Rattle.redo_names.proofs.ListLemmas.{with_new-distinct}
 use Rattle.redo_record.specs.declared.outcome.Outcome.{Outcome}
 use Rattle.redo_record.specs.Paths.{AreDistinct}
 use Rattle.redo_build.specs.Schedule.{Entry, entered, outcomes_of, paths_of}
 use Rattle.redo_build.proofs.SeenLemmas.{entry_of-entered_old, outcomes_of-at, outcomes_of-entry, paths_of-entered}
-use Rattle.redo_rules.specs.Build.{GivenView, rules_for}
 use Rattle.redo_table.specs.Schedule.{stage_at}
 use Rattle.redo_table.specs.Schedule.StageView.{Out as AtOut, InHand as AtHand}
-use Rattle.redo_core.specs.inside.Slots.{AreEnteredInto, IsOutThere, IsTableOf, path_at, table_entries}
-use Rattle.redo_core.specs.declared.table.Slot.{Slot}
-use Rattle.redo_core.specs.declared.table.Table.{Table}
+use Rattle.redo_core.specs.inside.Slots.{AreEnteredInto, IsOutThere, IsTableOf, path_at, table_entries, GivenView}
+use Rattle.redo_core.specs.inside.Slots.{rules_for, Slot, Table}
 use Rattle.redo_core.proofs.EntryLemmas.{entry-paths, path-there}
 use Rattle.std.proofs.lemmas.Option.{slice_get_within}
 
@@ -24,13 +22,7 @@ module _ (given : GivenView) (t v : Table) (ps : List (List ℕ)) (table : IsTab
 
   -- nothing more is in hand
   pub entered-in_hand : (k : ℕ) → stage_at v.schedule k ≡ Some AtHand → stage_at t.schedule k ≡ Some AtHand
-  entered-in_hand k h = elim (a.fresh k AtHand h) [
-    | inl old ↦ old
-    | inr new ↦ absurd (elim new as (λ _. ⊥) [
-      | inl due ↦ cc
-      | inr other ↦ elim other as (λ _. ⊥) [ inl ready ↦ cc | inr decided ↦ cc ]
-    ])
-  ]
+  entered-in_hand k h = elim (a.fresh k AtHand h) [ inl old ↦ old | inr new ↦ absurd (let bad : false ≡ true = new in cc) ]
 
   pub entered-path : (at : ℕ) (slot : Slot) → slice_get t.slots.items at ≡ Some slot → path_at v.targets at ≡ path_at t.targets at
   entered-path at slot there = rw (a.keys_kept at (path_at t.targets at) (path-there given t t.schedule.stages table at slot there)) refl

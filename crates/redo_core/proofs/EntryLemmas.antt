@@ -11,12 +11,10 @@ use Rattle.redo_build.proofs.SoundLemmas.{IsSound}
 use Rattle.redo_build.proofs.StandingLemmas.{outcomes_of-deep}
 use Rattle.redo_build.proofs.TurnBoundLemmas.{turn-below}
 use Rattle.redo_build.proofs.TurnLemmas.{Extends-trans'}
-use Rattle.redo_rules.specs.Build.{GivenView, rules_for}
 use Rattle.redo_rules.proofs.Public.{lawful_for}
 use Rattle.redo_table.specs.Schedule.{StageView}
-use Rattle.redo_core.specs.inside.Slots.{outcomes_at_limit, IsAtRest, IsTable, path_at, slot_entry, table_entries, table_state}
-use Rattle.redo_core.specs.declared.table.Slot.{Slot}
-use Rattle.redo_core.specs.declared.table.Table.{Table}
+use Rattle.redo_core.specs.inside.Slots.{outcomes_at_limit, IsAtRest, IsTable, path_at, slot_entry, table_entries}
+use Rattle.redo_core.specs.inside.Slots.{table_state, GivenView, rules_for, Slot, Table}
 use Rattle.redo_build.proofs.ReachedLemmas.{reached-sound}
 use Rattle.redo_core.proofs.SlotLemmas.{entry_of-slots, paths_of-slots}
 use Rattle.std.proofs.lemmas.Option.{slice_get_within}

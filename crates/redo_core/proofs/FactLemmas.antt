@@ -1,6 +1,6 @@
 -- What facts tell.
 use Rattle.std.proofs.Common.{◌≡◌, ℕ, List, [], ◌∷◌, ◌++◌, Bool, Option, Some, None, inl, inr, map, cond, refl, sym, ap}
-use Rattle.std.proofs.Common.{◌∙◌, bytes_eq, zero, suc, ◌+◌, ◌<◌, length, drop, slice_index_or, arith}
+use Rattle.std.proofs.Common.{◌∙◌, bytes_eq, ◌+◌, ◌<◌, length, drop, slice_index_or}
 use Rattle.std.specs.Map.{lookup}
 use Rattle.std.specs.Prelude.{option_map}
 use Rattle.std.proofs.lemmas.Bool.{cases_Bool, both_ways}
@@ -9,6 +9,7 @@ use Rattle.redo_record.specs.declared.outcome.Outcome.{Outcome}
 use Rattle.redo_sync.specs.Shown.{Shown}
 use Rattle.redo_core.specs.inside.Works.{few_known}
 use Rattle.redo_core.specs.Views.{FactView}
+use Rattle.std.proofs.lemmas.List.{drop_more}
 
 -- looking up an outcome is looking up its fact
 pub lookup-known : (es : List (List ℕ × Shown FactView)) (p : List ℕ) →
@@ -50,11 +51,6 @@ either-way p q = elim (cases_Bool (bytes_eq p q)) [
   ]
 ]
 
-drop-item : {X : Type 0} (xs : List X) (i : ℕ) (d : X) → i < length xs → drop i xs ≡ slice_index_or xs i d ∷ drop (i + 1) xs
-drop-item [] i d h = absurd (omega arith)
-drop-item (x ∷ xs) zero d h = refl
-drop-item (x ∷ xs) (suc i) d h = let e : suc i + 1 ≡ suc (i + 1) = omega arith in rw e (drop-item xs i d (omega arith))
-
 -- of the facts that are left, the first answers for its target
 pub left-answers : (fs : List (Shown FactView)) (i : ℕ) (x : Shown FactView) (p : List ℕ) → i < length fs → x ≡ slice_index_or fs i x →
     lookup (bytes_eq p) (few_known (drop i fs)) ≡
@@ -62,5 +58,5 @@ pub left-answers : (fs : List (Shown FactView)) (i : ℕ) (x : Shown FactView) (
 left-answers fs i x p below is =
     let target = x.value.target in
     let rest = lookup (bytes_eq p) (few_known (drop (i + 1) fs)) in
-    ap (λ xs. lookup (bytes_eq p) (few_known xs)) (drop-item fs i x below ∙ ap (λ y. y ∷ drop (i + 1) fs) (sym is)) ∙
+    ap (λ xs. lookup (bytes_eq p) (few_known xs)) (drop_more fs i x below ∙ ap (λ y. y ∷ drop (i + 1) fs) (sym is)) ∙
     ap (λ b. cond b (Some x.value.outcome) rest) (either-way target p)

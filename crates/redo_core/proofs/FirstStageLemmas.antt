@@ -14,14 +14,13 @@ use Rattle.redo_build.specs.Schedule.{nothing_known, only}
 use Rattle.redo_build.proofs.DepthLemmas.{cases_Option}
 use Rattle.redo_skip.specs.Checks.{progress_checked, record_checked}
 use Rattle.redo_skip.proofs.NewBookLemmas.{are-checks}
-use Rattle.redo_rules.specs.Build.{GivenView, checks_for, last_run_of, rules_for, sources_for}
+use Rattle.redo_rules.specs.Build.{checks_for, last_run_of}
 use Rattle.redo_rules.proofs.Public.{lawful_for}
 use Rattle.redo_core.specs.Views.{told_by}
 use Rattle.redo_core.specs.declared.facts.Facts.{Facts}
-use Rattle.redo_core.specs.declared.table.InCheck.{InCheck}
 use Rattle.redo_core.specs.inside.Checking.{IsBegunBehind, IsDueCheck}
 use Rattle.redo_core.specs.inside.Decided.{IsDecided}
-use Rattle.redo_core.specs.inside.Slots.{IsDueWith}
+use Rattle.redo_core.specs.inside.Slots.{IsDueWith, GivenView, rules_for, sources_for, InCheck}
 use Rattle.redo_core.specs.inside.Works.{IsUnreadWork, found_as, known_in, told_in}
 use Rattle.redo_core.proofs.CheckingLemmas.{behind-moves}
 

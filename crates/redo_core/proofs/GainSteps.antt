@@ -10,14 +10,12 @@ use Rattle.redo_core.specs.Views.{FactView}
 use Rattle.redo_record.specs.declared.outcome.Outcome.{Outcome}
 use Rattle.redo_core.specs.inside.Works.{told_in, few_known, entries_known, more_known, AddsFact}
 use Rattle.std.specs.declared.vec.Vec.{Vec}
-use Rattle.redo_core.specs.inside.Slots.{is_stage_decided, is_stage_out, IsFactAt, GainsOne, GainsBelow}
+use Rattle.redo_core.specs.inside.Slots.{is_stage_decided, is_stage_out, IsFactAt, GainsOne, GainsBelow, Table, Slot}
+use Rattle.redo_core.specs.inside.Slots.{Stage, Out, Decided}
 use Rattle.redo_core.specs.declared.facts.Facts.{Facts}
-use Rattle.redo_core.specs.declared.table.Table.{Table}
-use Rattle.redo_core.specs.declared.table.Slot.{Slot}
-use Rattle.redo_core.specs.declared.table.Stage.{Stage}
-use Rattle.redo_core.specs.declared.table.Stage.TheVariants.{Out, Decided}
 use Rattle.redo_core.proofs.FactLemmas.{insert-told, first_of, lookup-append, map-push, either-way}
 use Rattle.redo_build.proofs.DepthLemmas.{cases_Option}
+use Rattle.redo_core.proofs.NumberLemmas.{same-some}
 
 pub decided-fact : (stage : Stage) → is_stage_decided stage ≡ true → (fact : Shown FactView) × (stage ≡ Decided fact)
 decided-fact (Decided f) h = (f, refl)
@@ -101,8 +99,7 @@ more-told fact key same ms old new is updates q =
 
 pub same-fact : (t : Table) (n : ℕ) (f g : Shown FactView) → IsFactAt t n f → IsFactAt t n g → f ≡ g
 same-fact t n f g a b =
-    let both : Some a.0 ≡ Some b.0 = sym a.1 ∙ b.1 in
-    let slot : a.0 ≡ b.0 = cc in
+    let slot : a.0 ≡ b.0 = same-some _ _ _ a.1 b.1 in
     let stages : Decided f ≡ Decided g = sym a.2 ∙ ap (λ (y : Slot). y.stage) slot ∙ b.2 in
     cc
 
@@ -121,8 +118,7 @@ gains-step t ns old mid new i n get before one = record {
     | inr now ↦
         let same : k ≡ i = omega (arith, below, now) in
         let P : ℕ → Type 0 = λ j. slice_get ns j ≡ Some m in
-        let both : Some m ≡ Some n = sym (subst P same at) ∙ get in
-        let is : m ≡ n = cc in
+        let is : m ≡ n = same-some _ _ _ (subst P same at) get in
         let Q : ℕ → Type 0 = λ j. IsFactAt t j fact in
         let it = same-fact t n fact one.0 (subst Q is there) one.1 in
         let N : Shown FactView → Type 0 = λ f. told_in new f.value.target ≡ None in

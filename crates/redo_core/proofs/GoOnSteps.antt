@@ -7,51 +7,48 @@ use Rattle.redo_record.specs.declared.outcome.Outcome.{Outcome}
 use Rattle.redo_build.specs.Rules.{Rules, operands}
 use Rattle.redo_build.specs.Schedule.{Entry, only, outcomes_of}
 use Rattle.redo_build.specs.inside.Standing.{AreStanding}
-use Rattle.redo_rules.specs.Build.{GivenView, rules_for}
 use Rattle.redo_table.specs.Schedule.{StageView, ScheduleView, IsAnswered, stage_at, with_stage}
-use Rattle.redo_table.specs.Schedule.StageView.{Due as AtDue, Ready as AtReady, Out as AtOut, InHand as AtHand}
+use Rattle.redo_table.specs.Schedule.StageView.{Ready as AtReady, InHand as AtHand}
 use Rattle.redo_table.specs.Schedule.StageView.{Waiting as AtWaiting, Decided as AtDecided}
 use Rattle.redo_table.proofs.TargetLemmas.{count-set, get-same, set-cases}
-use Rattle.redo_core.specs.inside.Slots.{outcomes_at_limit, Agrees, AllAnswered, AreNumbers, Fits, IsAnsweredAt, IsAnsweredCheck, IsDecidedNumber}
-use Rattle.redo_core.specs.inside.Slots.{IsFed, IsGoneOnAt, IsMadeReadyAt, IsParked, IsResumedAt, IsSettling, IsStandingTable}
-use Rattle.redo_core.specs.inside.Slots.{IsWaitingWith, is_stage_due, is_stage_out, is_stage_ready, is_waiting, next_stage}
-use Rattle.redo_core.specs.inside.Slots.{path_at, slot_entry, stage_outcome, table_entries}
+use Rattle.redo_core.specs.inside.Slots.{outcomes_at_limit, Agrees, AllAnswered, AreNumbers, Fits, IsAnsweredAt}
+use Rattle.redo_core.specs.inside.Slots.{IsAnsweredCheck, IsDecidedNumber, is_stage_waiting, IsFed, IsGoneOnAt}
+use Rattle.redo_core.specs.inside.Slots.{IsMadeReadyAt, IsParked, IsResumedAt, IsSettling, IsStandingTable}
+use Rattle.redo_core.specs.inside.Slots.{IsWaitingWith, is_stage_due, is_stage_out, is_stage_ready, is_waiting}
+use Rattle.redo_core.specs.inside.Slots.{in_schedule, is_going, path_at, slot_entry, stage_outcome, table_entries}
+use Rattle.redo_core.specs.inside.Slots.{GivenView, rules_for, Awaiting, Slot, Stage, Due, Checking, Waiting, Ready}
+use Rattle.redo_core.specs.inside.Slots.{Table}
 use Rattle.redo_core.specs.inside.Works.{all_asked, waited_by}
 use Rattle.redo_core.specs.declared.work.Begun.{Begun}
-use Rattle.redo_core.specs.declared.table.Awaiting.{Awaiting}
-use Rattle.redo_core.specs.declared.table.Slot.{Slot}
-use Rattle.redo_core.specs.declared.table.Stage.{Stage}
-use Rattle.redo_core.specs.declared.table.Stage.TheVariants.{Due, Checking, Waiting, Ready, Out, Decided}
-use Rattle.redo_core.specs.declared.table.Table.{Table}
-use Rattle.redo_core.proofs.AgreeLemmas.{agreed-slot, agrees-decided}
+use Rattle.redo_core.proofs.AgreeLemmas.{agreed-slot, agrees-decided, agrees-tests}
 use Rattle.redo_core.proofs.EntryLemmas.{keys-distinct, path-there}
 use Rattle.std.proofs.lemmas.Option.{slice_get_within}
 use Rattle.redo_core.proofs.TableLemmas.{set-twice}
 use Rattle.redo_core.proofs.TableSteps.{entries-same, parked_fed, parked_ready, table-same}
+use Rattle.redo_core.proofs.NumberLemmas.{same-some}
 
 -- what waits in the schedule waits in its slot
 waits-so : (r : Rules) (ps : List (List ℕ)) (stage : Stage) (on : List ℕ) → Agrees r ps stage (AtWaiting on) →
     ((begun : Box Begun Global) → stage ≡ Waiting begun → ⊥) → ((awaiting : Awaiting) → stage ≡ Checking awaiting → ⊥) → ⊥
-waits-so r ps (Due held) on h w c = let bad : AtWaiting on ≡ AtDue = h in cc
-waits-so r ps (Checking awaiting) on h w c = c awaiting refl
-waits-so r ps (Waiting begun) on h w c = w begun refl
-waits-so r ps (Ready work) on h w c = let bad : AtWaiting on ≡ AtReady = h in cc
-waits-so r ps Out on h w c = elim h as (λ _. ⊥) [
-  | inl out ↦ let bad : AtWaiting on ≡ AtOut = out in cc
-  | inr hand ↦ let bad : AtWaiting on ≡ AtHand = hand in cc
-]
-waits-so r ps (Decided fact) on h w c = let bad : AtWaiting on ≡ AtDecided = h in cc
+waits-so r ps stage on h w c = by stage (agrees-tests r ps stage (AtWaiting on) h).3 w c
+  where
+    by : (x : Stage) → true ≡ is_stage_waiting x → ((begun : Box Begun Global) → x ≡ Waiting begun → ⊥) →
+        ((awaiting : Awaiting) → x ≡ Checking awaiting → ⊥) → ⊥
+    by (Checking awaiting) t w' c' = c' awaiting refl
+    by (Waiting begun) t w' c' = w' begun refl
+    by _ t w' c' = absurd cc
 
 -- where a stage can go on the schedule agrees
 next-agrees : (r : Rules) (ps : List (List ℕ)) (stage : Stage) → (is_stage_due stage ≡ true) ⊎ (is_stage_ready stage ≡ true) →
-    Agrees r ps stage (next_stage stage) × (stage_outcome stage ≡ None) × (is_stage_out stage ≡ false)
-next-agrees r ps (Due held) h = (refl, refl, refl)
-next-agrees r ps (Ready work) h = (refl, refl, refl)
+    Agrees r ps stage (in_schedule stage) × (stage_outcome stage ≡ None) × (is_stage_out stage ≡ false) ×
+    (is_going (in_schedule stage) ≡ true)
+next-agrees r ps (Due held) h = (refl, refl, refl, refl)
+next-agrees r ps (Ready work) h = (refl, refl, refl, refl)
 next-agrees r ps _ h = elim h [ inl t ↦ cc | inr t ↦ cc ]
 
-next-is : (stage : Stage) → (next_stage stage ≡ AtDue) ⊎ (next_stage stage ≡ AtReady)
-next-is (Due held) = inl refl
-next-is _ = inr refl
+going-waits : (s : StageView) → is_going s ≡ true → is_waiting s ≡ false
+going-waits (AtWaiting on) h = cc
+going-waits _ h = refl
 
 module _ (given : GivenView) (t : Table) (at : ℕ) (on : List ℕ) (answered : IsAnsweredAt given t at on) where
   abbrev r : Rules
@@ -78,8 +75,7 @@ module _ (given : GivenView) (t : Table) (at : ℕ) (on : List ℕ) (answered : 
   module _ (slot : Slot) (there : slice_get t.slots.items at ≡ Some slot) where
     agrees : Agrees r t.targets slot.stage (AtWaiting on)
     agrees =
-        let both : Some answered-slot.0 ≡ Some slot = sym answered-slot.1 ∙ there in
-        let same : answered-slot.0 ≡ slot = cc in
+        let same : answered-slot.0 ≡ slot = same-some _ _ _ answered-slot.1 there in
         let P : Slot → Type 0 = λ x. Agrees r t.targets x.stage (AtWaiting on) in
         subst P same answered-slot.2
 
@@ -116,8 +112,7 @@ module _ (given : GivenView) (t : Table) (at : ℕ) (on : List ℕ) (answered : 
 
       pub answered-check : (place : ℕ) → slice_get on 0 ≡ Some place → IsAnsweredCheck given t at place
       answered-check place first =
-          let both : Some alone.0 ≡ Some place = sym (ap (λ ns. slice_get ns 0) alone.1) ∙ first in
-          let same : alone.0 ≡ place = cc in
+          let same : alone.0 ≡ place = same-some _ _ _ (ap (λ ns. slice_get ns 0) alone.1) first in
           let P : ℕ → Type 0 = λ n. slice_get t.targets n ≡ Some awaiting.path in (
             slot,
             awaiting,
@@ -140,7 +135,7 @@ module _ (given : GivenView) (t : Table) (at : ℕ) (on : List ℕ) (answered : 
       Agrees r t.targets new.stage s →
       Fits r (outcomes_of (table_entries given t)) given (path_at t.targets at) new.turn new.stage →
       u.targets ≡ t.targets → u.slots.items ≡ slice_set t.slots.items at new → u.schedule ≡ with_stage t.schedule at s →
-      (s ≡ AtDue) ⊎ (s ≡ AtReady) → IsGoneOnAt given t u at
+      is_going s ≡ true → IsGoneOnAt given t u at
   gone-on u old new s there same agrees' fit targets slots schedule is =
       let next = table-same given t stages answered.table answered.standing at old new there same s agrees' fit in
       let here : u.schedule.stages ≡ slice_set stages at s =
@@ -149,10 +144,9 @@ module _ (given : GivenView) (t : Table) (at : ℕ) (on : List ℕ) (answered : 
         table = rw (targets, slots, here) next;
         entries = rw (targets, slots) (entries-same given t stages answered.table answered.standing at old new there same);
         targets = targets;
-        schedule = elim is [
-          | inl due ↦ inl (schedule ∙ ap (with_stage t.schedule at) due)
-          | inr ready ↦ inr (schedule ∙ ap (with_stage t.schedule at) ready)
-        ];
+        stage = s;
+        going = is;
+        schedule = schedule;
       }
 
   pub made_ready-gone_on : (u : Table) → IsMadeReadyAt given t u at → IsGoneOnAt given t u at
@@ -169,7 +163,7 @@ module _ (given : GivenView) (t : Table) (at : ℕ) (on : List ℕ) (answered : 
       let D : List Dep → Type 0 = λ ds. AllAnswered r a ds × (r.begins p (only (operands r ds) a) ≡ true) in
       let both = subst D (sym f.same.3) (answered-ready f.old f.there f.begun f.was) in
       gone-on u f.old (record f.old { stage = Ready f.work }) AtReady f.there (ap E f.same.3 ∙ sym was) refl (parts, both.0, both.1)
-      f.targets f.slots f.schedule (inr refl)
+      f.targets f.slots f.schedule refl
 
   pub resumed-gone_on : (u : Table) → IsResumedAt given t u at → IsGoneOnAt given t u at
   resumed-gone_on u f =
@@ -183,8 +177,8 @@ module _ (given : GivenView) (t : Table) (at : ℕ) (on : List ℕ) (answered : 
       ap (λ ds. E ds (stage_outcome f.stage) (is_stage_out f.stage)) f.deps ∙
       ap (λ o. E asked o (is_stage_out f.stage)) next.1 ∙ ap (E asked None) next.2 in
       let old : slot_entry r b p f.old ≡ E asked None false = rw f.was refl in
-      gone-on u f.old (record f.old { stage = f.stage }) (next_stage f.stage) f.there (new ∙ sym old) next.0 f.fits f.targets f.slots f.schedule
-      (next-is f.stage)
+      gone-on u f.old (record f.old { stage = f.stage }) (in_schedule f.stage) f.there (new ∙ sym old) next.0 f.fits f.targets f.slots f.schedule
+      next.3
 
 -- one target more went on
 module _ (given : GivenView) (t mid : Table) (settling : IsSettling given t mid) (at : ℕ) (on : List ℕ) (answered : IsAnswered mid.schedule.stages at on) where
@@ -201,36 +195,26 @@ module _ (given : GivenView) (t mid : Table) (settling : IsSettling given t mid)
       }
 
   module _ (next : ScheduleView) (is : next ≡ with_stage mid.schedule at AtHand) (u : Table) (g : IsGoneOnAt given (record mid { schedule = next }) u at) where
-    -- it is due or ready
-    went : (s : StageView) × ((s ≡ AtDue) ⊎ (s ≡ AtReady)) × (u.schedule ≡ with_stage (with_stage mid.schedule at AtHand) at s)
-    went = elim g.schedule as (λ _. (s : StageView) × ((s ≡ AtDue) ⊎ (s ≡ AtReady)) × (u.schedule ≡ with_stage (with_stage mid.schedule at AtHand) at s)) [
-      | inl due ↦ (AtDue, inl refl, due ∙ ap (λ (x : ScheduleView). with_stage x at AtDue) is)
-      | inr ready ↦ (AtReady, inr refl, ready ∙ ap (λ (x : ScheduleView). with_stage x at AtReady) is)
-    ]
+    went : u.schedule ≡ with_stage (with_stage mid.schedule at AtHand) at g.stage
+    went = g.schedule ∙ ap (λ (x : ScheduleView). with_stage x at g.stage) is
 
-    went-stages : u.schedule.stages ≡ slice_set mid.schedule.stages at went.0
-    went-stages = ap (λ (x : ScheduleView). x.stages) went.2 ∙ set-twice mid.schedule.stages at AtHand went.0
+    went-stages : u.schedule.stages ≡ slice_set mid.schedule.stages at g.stage
+    went-stages = ap (λ (x : ScheduleView). x.stages) went ∙ set-twice mid.schedule.stages at AtHand g.stage
 
     pub settling-more : IsSettling given t u
     settling-more = record {
       table = g.table;
       entries = g.entries ∙ settling.entries;
       targets = g.targets ∙ settling.targets;
-      ready = ap (λ (x : ScheduleView). x.ready) went.2 ∙ settling.ready;
-      in_hand = λ k h. elim (set-cases mid.schedule.stages at k (AtWaiting on) went.0 AtHand answered.waited (sym (ap (λ ss. slice_get ss k) went-stages) ∙ h)) [
-        | inl here ↦ absurd (elim went.1 as (λ _. ⊥) [
-          | inl due ↦ let bad : AtDue ≡ AtHand = sym due ∙ here.1 in cc
-          | inr ready ↦ let bad : AtReady ≡ AtHand = sym ready ∙ here.1 in cc
-        ])
+      ready = ap (λ (x : ScheduleView). x.ready) went ∙ settling.ready;
+      in_hand = λ k h. elim (set-cases mid.schedule.stages at k (AtWaiting on) g.stage AtHand answered.waited (sym (ap (λ ss. slice_get ss k) went-stages) ∙ h)) [
+        | inl here ↦ absurd (let bad : false ≡ true = ap is_going (sym here.1) ∙ g.going in cc)
         | inr other ↦ settling.in_hand k other.1
       ];
     }
 
     pub settling-fewer : count_by is_waiting u.schedule.stages < count_by is_waiting mid.schedule.stages
     settling-fewer =
-        let counted = count-set is_waiting mid.schedule.stages at (AtWaiting on) went.0 answered.waited in
-        let none : ◌≡◌ {A = ℕ} (cond (is_waiting went.0) 1 0) 0 = elim went.1 as (λ _. ◌≡◌ {A = ℕ} (cond (is_waiting went.0) 1 0) 0) [
-          | inl due ↦ ap {B = ℕ} (λ s. cond (is_waiting s) 1 0) due
-          | inr ready ↦ ap {B = ℕ} (λ s. cond (is_waiting s) 1 0) ready
-        ] in
+        let counted = count-set is_waiting mid.schedule.stages at (AtWaiting on) g.stage answered.waited in
+        let none : ◌≡◌ {A = ℕ} (cond (is_waiting g.stage) 1 0) 0 = ap {B = ℕ} (λ b. cond b 1 0) (going-waits g.stage g.going) in
         omega (arith, counted, none, ap (count_by is_waiting) went-stages)

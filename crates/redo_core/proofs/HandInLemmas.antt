@@ -6,7 +6,6 @@ use Rattle.redo_build.specs.Schedule.{IsReached, Entry, Event, State, entry_of, 
 use Rattle.redo_build.specs.Schedule.Event.{Hand_in}
 use Rattle.redo_build.specs.Schedule.Phase.{Script}
 use Rattle.redo_build.specs.Looking.{IsLookedOut, looked}
-use Rattle.redo_rules.specs.Build.{GivenView, rules_for}
 use Rattle.redo_rules.proofs.Public.{lawful_for}
 use Rattle.redo_table.specs.Schedule.{NoneDue}
 use Rattle.redo_core.specs.Views.{BoardView, PieceView, rules_on}
@@ -14,13 +13,13 @@ use Rattle.redo_core.specs.Faults.{fault_of, IsSameBuild, RefusedRunning}
 use Rattle.redo_core.specs.declared.board.Stop.{Stop}
 use Rattle.redo_core.specs.declared.board.Stop.TheVariants.{TooMany, Memory}
 use Rattle.redo_core.specs.inside.Ends.{IsEndAt}
-use Rattle.redo_core.specs.inside.Slots.{outcomes_at_limit, rules_inside, state_of, path_at, slot_entry, is_stage_out, IsKept, IsOutSlotAt}
-use Rattle.redo_core.specs.inside.Slots.{MayTakeIn, IsAtRest, IsLookedOn, IsMovedOn, IsTakenIn, state_after, table_state}
+use Rattle.redo_core.specs.inside.Slots.{outcomes_at_limit, rules_inside, state_of, path_at, slot_entry, is_stage_out}
+use Rattle.redo_core.specs.inside.Slots.{IsKept, IsOutSlotAt, MayTakeIn, IsAtRest, IsLookedOn, IsMovedOn, IsTakenIn}
+use Rattle.redo_core.specs.inside.Slots.{state_after, table_state, GivenView, rules_for, Table}
 use Rattle.redo_build.proofs.SoundLemmas.{IsSound, happens-sound}
 use Rattle.redo_build.proofs.QuietLemmas.{is_part}
 use Rattle.redo_core.proofs.EntryLemmas.{entry-there, rest-sound}
 use Rattle.redo_core.specs.declared.board.Board.TheInside.{Inside}
-use Rattle.redo_core.specs.declared.table.Table.{Table}
 use Rattle.redo_core.specs.declared.work.End.{End}
 use Rattle.redo_core.proofs.GainSteps.{out-stage}
 use Rattle.redo_core.proofs.LookLemmas.{none_due}

@@ -7,8 +7,7 @@ use Rattle.redo_record.specs.Paths.{is_among}
 use Rattle.redo_build.specs.Rules.{Rules, AreLawful, operands}
 use Rattle.redo_build.specs.Outcomes.{outcome_at}
 use Rattle.redo_build.specs.Schedule.{Entry, outcomes_of, only}
-use Rattle.redo_rules.specs.Build.{GivenView}
-use Rattle.redo_core.specs.inside.Slots.{AllAnswered}
+use Rattle.redo_core.specs.inside.Slots.{AllAnswered, GivenView}
 use Rattle.redo_build.specs.inside.Standing.{AreStanding, decided_count}
 use Rattle.redo_core.specs.inside.Scripts.{IsScriptOf, script_target, script_turn, script_deps, script_known}
 use Rattle.redo_core.specs.inside.Works.{HoldsOutcomes}

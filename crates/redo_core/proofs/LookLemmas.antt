@@ -2,7 +2,7 @@
 use Rattle.std.proofs.Common.{slice_get, ◌≡◌, ℕ, zero, suc, ◌<◌, Bool, true, false, inl, inr, List, ◌∷◌}
 use Rattle.std.proofs.Common.{find, length, Option, Some, None, is_none, Global, Vec, refl, sym, ap, subst, ◌∙◌, arith, ◌≤◌}
 use Rattle.std.specs.Prelude.{Box}
-use Rattle.std.proofs.lemmas.Bool.{cases_Bool, both_ways, and_from, and_parts, not-true, not_from_false}
+use Rattle.std.proofs.lemmas.Bool.{cases_Bool, both_ways, and_from, and_parts, not-true, not_from_false, false_from_ne_true}
 use Rattle.redo_names.proofs.PathLemmas.{among-told}
 use Rattle.redo_record.specs.Paths.{IsAmong, AreDistinct, is_among}
 use Rattle.redo_build.specs.Rules.{Ask, Rules, operands}
@@ -18,21 +18,17 @@ use Rattle.redo_build.specs.Schedule.{outcomes_of}
 use Rattle.redo_record.specs.declared.deps.Dep.{Dep}
 use Rattle.redo_record.specs.declared.outcome.Outcome.{Outcome}
 use Rattle.redo_build.proofs.SoundLemmas.{is_able_to_go_on-parts, lacks_none-from, lacks_none-true}
-use Rattle.redo_rules.specs.Build.{GivenView, rules_for}
 use Rattle.redo_rules.proofs.Public.{lawful_for}
 use Rattle.redo_table.specs.Schedule.{ScheduleView, NoneDue as NoneIsDue, stage_at}
 use Rattle.redo_table.specs.Schedule.StageView.{Due as AtDue, Ready as AtReady}
-use Rattle.redo_core.specs.declared.table.InCheck.{InCheck}
-use Rattle.redo_core.specs.declared.table.Slot.{Slot}
-use Rattle.redo_core.specs.declared.table.Stage.{Stage}
-use Rattle.redo_core.specs.declared.table.Stage.TheVariants.{Due, Ready, Out, Decided}
-use Rattle.redo_core.specs.declared.table.Table.{Table}
-use Rattle.redo_core.specs.inside.Slots.{outcomes_at_limit, Fits, IsAtRest, IsDrawnFrom, IsDueThere, is_stage_due, is_stage_out}
-use Rattle.redo_core.specs.inside.Slots.{is_stage_waiting, path_at, rounds_of, slot_entries, slot_entry, stage_deps}
-use Rattle.redo_core.specs.inside.Slots.{IsLookedOn, IsLookedOnce, stage_outcome, table_state}
+use Rattle.redo_core.specs.inside.Slots.{outcomes_at_limit, Fits, IsAtRest, IsDrawnFrom, IsDueThere, is_stage_due}
+use Rattle.redo_core.specs.inside.Slots.{is_stage_out, is_stage_waiting, path_at, rounds_of, slot_entries, slot_entry}
+use Rattle.redo_core.specs.inside.Slots.{stage_deps, IsLookedOn, IsLookedOnce, stage_outcome, table_state, GivenView}
+use Rattle.redo_core.specs.inside.Slots.{rules_for, InCheck, Slot, Stage, Due, Ready, Out, Decided, Table}
 use Rattle.redo_core.proofs.AgreeLemmas.{agreed-slot, agreed-stage, agrees-due, due-agrees}
 use Rattle.redo_core.proofs.EntryLemmas.{path-there, rest-distinct, rest-sound}
-use Rattle.redo_core.proofs.NewlyReadyLemmas.{among-map, distinct-place, due-begins}
+use Rattle.redo_core.proofs.RowLemmas.{among-key}
+use Rattle.redo_core.proofs.NewlyReadyLemmas.{distinct-place, due-begins}
 use Rattle.redo_core.proofs.PlaceLemmas.{place-times}
 use Rattle.redo_core.proofs.SlotLemmas.{length-slots}
 use Rattle.redo_core.proofs.WaitedLemmas.{waited-lacks}
@@ -86,13 +82,10 @@ module _ (given : GivenView) (t : Table) (rest : IsAtRest given t) where
   -- what lacks an answer isn't due
   not-fed : (p : List ℕ) (slot : Slot) → ((q : List ℕ) × IsAmong (operands r (slot_entry r a p slot).deps) q ×
       (outcomes_of s.entries q ≡ None)) → is_due r s (slot_entry r a p slot) ≡ false
-  not-fed p slot lack = elim (cases_Bool (is_due r s (slot_entry r a p slot))) [
-    | inl due ↦ absurd (
-        let e : Entry = slot_entry r a p slot in
-        let parts = is_able_to_go_on-parts r s e (and_parts (is_able_to_go_on r s e) _ due).0 in
-        lacks_none-true r s.entries e parts.1 lack.0 lack.1 lack.2)
-    | inr f ↦ f
-  ]
+  not-fed p slot lack = false_from_ne_true _ (λ due.
+      let e : Entry = slot_entry r a p slot in
+      let parts = is_able_to_go_on-parts r s e (and_parts (is_able_to_go_on r s e) _ due).0 in
+      lacks_none-true r s.entries e parts.1 lack.0 lack.1 lack.2)
 
   -- of the other stages the entry is due where the stage is
   by-stage : (p : List ℕ) (slot : Slot) (stage : Stage) → slot.stage ≡ stage → Fits r (outcomes_of s.entries) given p slot.turn stage →
@@ -115,32 +108,22 @@ module _ (given : GivenView) (t : Table) (rest : IsAtRest given t) where
       subst B (sym deps) (due-begins given p (outcomes_of s.entries) held.value.check fits.is_due) in
       and_from _ _ (and_from _ _ (and_from _ _ (and_from _ _ (subst O (sym is) refl) fed)
       (not_from_false _ (subst I (sym is) refl))) (not_from_false _ (apart refl))) (not_from_false _ quiet)
-  by-stage p slot (Ready work) is fits waits apart = elim (cases_Bool (is_due r s (slot_entry r a p slot))) [
-    | inl due ↦ absurd (
-        let e : Entry = slot_entry r a p slot in
-        let D : Stage → Type 0 = λ st. stage_deps r a p (rounds_of slot) st ≡ work.deps in
-        let deps : e.deps ≡ work.deps = subst D (sym is) refl in
-        let B : List Dep → Type 0 = λ ds.
-        r.begins p (only (operands r ds) (outcomes_of s.entries)) ≡ true in
-        let begun : r.begins e.path (known_to r s.entries e) ≡ true = subst B (sym deps) fits.2 in
-        both_ways _ (not-true _ (and_parts (is_able_to_go_on r s e) _ due).1) begun)
-    | inr f ↦ f
-  ]
-  by-stage p slot Out is fits waits apart = elim (cases_Bool (is_due r s (slot_entry r a p slot))) [
-    | inl due ↦ absurd (
-        let e : Entry = slot_entry r a p slot in
-        let parts = is_able_to_go_on-parts r s e (and_parts (is_able_to_go_on r s e) _ due).0 in
-        both_ways _ parts.2 (ap is_stage_out is))
-    | inr f ↦ f
-  ]
-  by-stage p slot (Decided fact) is fits waits apart = elim (cases_Bool (is_due r s (slot_entry r a p slot))) [
-    | inl due ↦ absurd (
-        let e : Entry = slot_entry r a p slot in
-        let parts = is_able_to_go_on-parts r s e (and_parts (is_able_to_go_on r s e) _ due).0 in
-        let bad : ◌≡◌ {A = Option Outcome} (Some fact.value.outcome) None =
-        sym (ap stage_outcome is) ∙ parts.0 in cc)
-    | inr f ↦ f
-  ]
+  by-stage p slot (Ready work) is fits waits apart = false_from_ne_true _ (λ due.
+      let e : Entry = slot_entry r a p slot in
+      let D : Stage → Type 0 = λ st. stage_deps r a p (rounds_of slot) st ≡ work.deps in
+      let deps : e.deps ≡ work.deps = subst D (sym is) refl in
+      let B : List Dep → Type 0 = λ ds. r.begins p (only (operands r ds) (outcomes_of s.entries)) ≡ true in
+      let begun : r.begins e.path (known_to r s.entries e) ≡ true = subst B (sym deps) fits.2 in
+      both_ways _ (not-true _ (and_parts (is_able_to_go_on r s e) _ due).1) begun)
+  by-stage p slot Out is fits waits apart = false_from_ne_true _ (λ due.
+      let e : Entry = slot_entry r a p slot in
+      let parts = is_able_to_go_on-parts r s e (and_parts (is_able_to_go_on r s e) _ due).0 in
+      both_ways _ parts.2 (ap is_stage_out is))
+  by-stage p slot (Decided fact) is fits waits apart = false_from_ne_true _ (λ due.
+      let e : Entry = slot_entry r a p slot in
+      let parts = is_able_to_go_on-parts r s e (and_parts (is_able_to_go_on r s e) _ due).0 in
+      let bad : ◌≡◌ {A = Option Outcome} (Some fact.value.outcome) None = sym (ap stage_outcome is) ∙ parts.0 in
+      cc)
   by-stage p slot _ is fits waits apart = not-fed p slot (waits refl)
 
   due-stage : (k : ℕ) (p : List ℕ) (slot : Slot) → slice_get t.targets k ≡ Some p → slice_get t.slots.items k ≡ Some slot →
@@ -153,18 +136,15 @@ module _ (given : GivenView) (t : Table) (rest : IsAtRest given t) where
       let lack = waited-lacks given t t.schedule.stages rest.table distinct rest.resting.lacks k slot there waits in
       let D : List ℕ → Type 0 = λ x. IsAmong (operands r (stage_deps r a x (rounds_of slot) slot.stage)) lack.0 in
       (lack.0, subst D here lack.1, lack.2))
-      (λ due. elim (cases_Bool (is_among s.ready p)) [
-        | inl yes' ↦ absurd (
-            let found = among-map (path_at t.targets) t.schedule.ready p (among-told s.ready p yes') in
-            let staged = rest.resting.queue.are_ready found.0 (place-times t.schedule.ready found.0 found.1) in
-            let other = agreed-slot r t.targets t.slots.items t.schedule.stages rest.table.agreed found.0 AtReady staged in
-            let same : found.0 ≡ k = distinct-place t.targets found.0 k p distinct
-            (key-at found.0 other.0 other.1 ∙ ap Some found.2) path in
-            let P : ℕ → Type 0 = λ j. stage_at t.schedule j ≡ Some AtReady in
-            let bad : AtReady ≡ AtDue = due-agrees r t.targets slot.stage AtReady (rest.table.agreed.each k slot AtReady there (subst P same staged)) due in
-            cc)
-        | inr f ↦ f
-      ])
+      (λ due. false_from_ne_true _ (λ yes'.
+      let found = among-key (path_at t.targets) t.schedule.ready p (among-told s.ready p yes') in
+      let staged = rest.resting.queue.are_ready found.0 (place-times t.schedule.ready found.0 found.1) in
+      let other = agreed-slot r t.targets t.slots.items t.schedule.stages rest.table.agreed found.0 AtReady staged in
+      let same : found.0 ≡ k = distinct-place t.targets found.0 k p distinct
+      (key-at found.0 other.0 other.1 ∙ ap Some found.2) path in
+      let P : ℕ → Type 0 = λ j. stage_at t.schedule j ≡ Some AtReady in
+      let bad : AtReady ≡ AtDue = due-agrees r t.targets slot.stage AtReady (rest.table.agreed.each k slot AtReady there (subst P same staged)) due in
+      cc))
 
   -- a slot that is due is so in the schedule
   slot-due : (k : ℕ) (slot : Slot) → slice_get t.slots.items k ≡ Some slot → is_stage_due slot.stage ≡ true → stage_at t.schedule k ≡ Some AtDue

@@ -3,7 +3,7 @@ use Rattle.std.proofs.Common.{map, slice_get, slice_set, ◌≡◌, ℕ, ◌<◌
 use Rattle.std.proofs.Common.{List, [], ◌∷◌, ◌++◌, length, length-set, Option, Some, None, refl, sym, ap}
 use Rattle.std.proofs.Common.{subst, ◌∙◌, arith, bytes_eq, Global, Vec}
 use Rattle.std.specs.Prelude.{Box}
-use Rattle.std.proofs.lemmas.Bool.{cases_Bool, both_ways}
+use Rattle.std.proofs.lemmas.Bool.{cases_Bool, both_ways, false_from_ne_true}
 use Rattle.std.proofs.lemmas.Slice.Eq.{bytes_eq-Decides}
 use Rattle.redo_names.proofs.ListLemmas.{IsAmong-left}
 use Rattle.redo_record.specs.declared.deps.Dep.{Dep}
@@ -22,21 +22,15 @@ use Rattle.redo_build.proofs.LookingLemmas.{first-look, first-open}
 use Rattle.redo_build.proofs.QuietLemmas.{is_part}
 use Rattle.redo_build.proofs.SeenLemmas.{paths_of-push, entry_of-put_same, paths_of-put}
 use Rattle.redo_build.proofs.SoundLemmas.{IsSound, happens-sound, only-same}
-use Rattle.redo_rules.specs.Build.{GivenView, rules_for}
 use Rattle.redo_rules.proofs.Public.{lawful_for}
 use Rattle.redo_table.specs.Schedule.{ScheduleView, IsQueue, stage_at, times, with_stage}
 use Rattle.redo_table.specs.Schedule.StageView.{Due as AtDue, Ready as AtReady, InHand as AtHand}
 use Rattle.redo_table.proofs.TargetLemmas.{get-other, get-same, set-cases}
 use Rattle.redo_build.specs.Schedule.{IsReached}
-use Rattle.redo_core.specs.inside.Slots.{outcomes_at_limit, Fits, IsAtRest, IsDueWith, IsOutThere, IsTable}
-use Rattle.redo_core.specs.inside.Slots.{IsTableOf, MayLook, entries_from}
-use Rattle.redo_core.specs.inside.Slots.{path_at, rounds_of, slot_entry, stage_deps, stage_outcome, state_after}
-use Rattle.redo_core.specs.inside.Slots.{table_entries, table_state}
-use Rattle.redo_core.specs.declared.table.InCheck.{InCheck}
-use Rattle.redo_core.specs.declared.table.Slot.{Slot}
-use Rattle.redo_core.specs.declared.table.Stage.{Stage}
-use Rattle.redo_core.specs.declared.table.Stage.TheVariants.{Out}
-use Rattle.redo_core.specs.declared.table.Table.{Table}
+use Rattle.redo_core.specs.inside.Slots.{outcomes_at_limit, Fits, IsAtRest, IsDueWith, IsOutThere, IsTable, IsTableOf}
+use Rattle.redo_core.specs.inside.Slots.{MayLook, entries_from, path_at, rounds_of, slot_entry, stage_deps}
+use Rattle.redo_core.specs.inside.Slots.{stage_outcome, state_after, table_entries, table_state, GivenView, rules_for}
+use Rattle.redo_core.specs.inside.Slots.{InCheck, Slot, Stage, Out, Table}
 use Rattle.redo_core.proofs.AgreeLemmas.{agreed-set}
 use Rattle.redo_core.proofs.EntryLemmas.{entries-few, entry-there, known-deep, path-there, rest-distinct, rest-sound, rounds-few}
 use Rattle.redo_core.proofs.LookLemmas.{drawn-first}
@@ -44,6 +38,7 @@ use Rattle.redo_core.proofs.SlotLemmas.{deps_deep}
 use Rattle.std.proofs.lemmas.Option.{slice_get_within}
 use Rattle.redo_core.proofs.SlotLemmas.{slot_entries-set}
 use Rattle.redo_core.proofs.TableLemmas.{fits-set, outcomes-kept}
+use Rattle.redo_core.proofs.NumberLemmas.{same-some}
 
 -- entering behind entries of which one is replaced
 put-append : (es : List Entry) (y z : Entry) → IsAmong (paths_of es) y.path → put es y ++ z ∷ [] ≡ put (es ++ z ∷ []) y
@@ -87,10 +82,8 @@ put-put (x ∷ es) y z same =
           let also : bytes_eq x.path z.path ≡ true = (bytes_eq-Decides x.path z.path).1 ((bytes_eq-Decides x.path y.path).0 t ∙ same) in
           ap (λ xs. put xs z) (put-here x y es t) ∙ put-here y z es own ∙ sym (put-here x z es also)
       | inr f ↦
-          let other : bytes_eq x.path z.path ≡ false = elim (cases_Bool (bytes_eq x.path z.path)) [
-            | inl t ↦ absurd (both_ways _ f ((bytes_eq-Decides x.path y.path).1 ((bytes_eq-Decides x.path z.path).0 t ∙ sym same)))
-            | inr n ↦ n
-          ] in
+          let other : bytes_eq x.path z.path ≡ false = false_from_ne_true _ (λ t.
+          both_ways _ f ((bytes_eq-Decides x.path y.path).1 ((bytes_eq-Decides x.path z.path).0 t ∙ sym same))) in
           ap (λ xs. put xs z) (put-there x y es f) ∙ put-there x z (put es y) other ∙ ap (λ xs. x ∷ xs) (put-put es y z same) ∙ sym (put-there x z es other)
     ]
 
@@ -182,8 +175,7 @@ module _ (given : GivenView) (u : Table) (at : ℕ) (held : Box InCheck Global) 
       Some (slot_entry (rules_for given) (outcomes_at_limit given) (path_at may.whole.targets at) may.taken.old)
   first =
       let found = drawn-first given may.whole may.drawn at may.is_drawn in
-      let both : Some found.slot ≡ Some old = sym found.there ∙ there in
-      let same : found.slot ≡ old = cc in
+      let same : found.slot ≡ old = same-some _ _ _ found.there there in
       found.first ∙ ap (λ x. Some (slot_entry rl al p x)) same
 
   look-open : IsDueAt (rules_for given) (table_state given may.whole) (path_at may.whole.targets at)

@@ -2,7 +2,7 @@
 use Rattle.std.proofs.Common.{map, slice_get, ◌≡◌, ℕ, ◌+◌, ◌<◌, false, ◌⊎◌, inl, inr, List, [], ◌∷◌, length}
 use Rattle.std.proofs.Common.{Some, None, refl, sym, ap, subst, ◌∙◌, Global}
 use Rattle.std.specs.Prelude.{Box, ◌&&◌}
-use Rattle.std.proofs.lemmas.Bool.{cases_Bool, both_ways, and_right}
+use Rattle.std.proofs.lemmas.Bool.{cases_Bool, both_ways, and_right, false_from_ne_true}
 use Rattle.redo_names.proofs.ListLemmas.{IsAmong-append, IsAmong-left}
 use Rattle.redo_names.proofs.PathLemmas.{among-told, told-among}
 use Rattle.redo_record.specs.declared.deps.Dep.{Dep}
@@ -20,21 +20,16 @@ use Rattle.redo_build.proofs.DepthLemmas.{cases_Option, ended_stays, operand-tar
 use Rattle.redo_build.proofs.TurnLemmas.{only-Extends, only-among, Extends-trans'}
 use Rattle.redo_skip.specs.Checks.{built, shown}
 use Rattle.redo_tree.specs.Tree.{file_at}
-use Rattle.redo_rules.specs.Build.{GivenView, rules_for}
 use Rattle.redo_rules.proofs.Public.{lawful_for}
 use Rattle.redo_core.specs.Views.{FactView}
 use Rattle.redo_core.specs.inside.Checking.{IsWaitingCheck, asks_next, entries_in}
 use Rattle.redo_core.specs.inside.Decided.{IsDecided}
 use Rattle.redo_table.specs.Schedule.{ScheduleView, stage_at}
 use Rattle.redo_table.specs.Schedule.StageView.{InHand as AtHand, Waiting as AtWaiting}
-use Rattle.redo_core.specs.inside.Slots.{outcomes_at_limit, AreEnteredInto, IsAskedAt, IsCheckingWith, IsConcludedAt, IsOutThere, IsPutBackThere, MayConclude}
-use Rattle.redo_core.specs.inside.Slots.{IsSettled, IsStandingTable, IsTableOf}
-use Rattle.redo_core.specs.inside.Slots.{MayLook, concluded_entry, path_at, slot_entry}
-use Rattle.redo_core.specs.inside.Slots.{state_after, table_entries}
-use Rattle.redo_core.specs.declared.table.InCheck.{InCheck}
-use Rattle.redo_core.specs.declared.table.Slot.{Slot}
-use Rattle.redo_core.specs.declared.table.Stage.TheVariants.{Checking, Out}
-use Rattle.redo_core.specs.declared.table.Table.{Table}
+use Rattle.redo_core.specs.inside.Slots.{outcomes_at_limit, AreEnteredInto, IsAskedAt, IsCheckingWith, IsConcludedAt}
+use Rattle.redo_core.specs.inside.Slots.{IsOutThere, IsPutBackThere, MayConclude, IsSettled, IsStandingTable}
+use Rattle.redo_core.specs.inside.Slots.{IsTableOf, MayLook, concluded_entry, path_at, slot_entry, state_after}
+use Rattle.redo_core.specs.inside.Slots.{table_entries, GivenView, rules_for, InCheck, Slot, Checking, Out, Table}
 use Rattle.redo_core.proofs.CheckingLemmas.{due-asks, due-kept, due-waits, waiting-moves}
 use Rattle.redo_core.proofs.EnterAllLemmas.{entered-seen, operands-append}
 use Rattle.redo_core.proofs.PutSteps.{asked-table, put-entries, put-none_in_hand}
@@ -102,17 +97,17 @@ module _ (given : GivenView) (u : Table) (at : ℕ) (held : Box InCheck Global) 
   -- all entries stand
   module _ (stands : asks_next given held.value.check ≡ None) where
     kept-now : advanced (rules_for given) (table_entries given may.whole) (slot_entry (rules_for given) (outcomes_at_limit given) (path_at may.whole.targets at) may.taken.old) ≡ built (file_at given.past.tree (path_at may.whole.targets at)) held.value.check.asked
-    kept-now = look-known given u at held may ∙ (due-kept given p (outcomes_of ew) held.value.check (fits given u at held may).is_due stands).0
+    kept-now = look-known given u at held may ∙ (due-kept given p held.value.check (outcomes_of ew) (fits given u at held may).is_due stands).0
 
     kept-end : (rules_for given).progress (path_at may.whole.targets at) (outcomes_at_limit given) ≡ built (file_at given.past.tree (path_at may.whole.targets at)) held.value.check.asked
     kept-end =
-        let here = (due-kept given p (outcomes_of ew) held.value.check (fits given u at held may).is_due stands).0 in
+        let here = (due-kept given p held.value.check (outcomes_of ew) (fits given u at held may).is_due stands).0 in
         sym (ended_stays r lawful p known al (Built (file_at given.past.tree p)) deep (ap (λ (x : Progress). x.outcome) here)) ∙ here
 
     -- what is asked for has the same answers in the end
     kept-alike : (q : List ℕ) → IsAmong (operands (rules_for given) ((rules_for given).progress (path_at may.whole.targets at) (only (operands (rules_for given) held.value.check.asked) (outcomes_of (table_entries given may.whole)))).deps) q → (only (operands (rules_for given) held.value.check.asked) (outcomes_of (table_entries given may.whole))) q ≡ outcomes_at_limit given q
     kept-alike q m =
-        let here = (due-kept given p (outcomes_of ew) held.value.check (fits given u at held may).is_due stands).0 in
+        let here = (due-kept given p held.value.check (outcomes_of ew) (fits given u at held may).is_due stands).0 in
         let D : Progress → Type 0 = λ x. IsAmong (operands r x.deps) q in
         let among : IsAmong (operands r asked) q = subst D here m in
         elim (cases_Option (outcomes_of ew q)) [
@@ -122,7 +117,7 @@ module _ (given : GivenView) (u : Table) (at : ℕ) (held : Box InCheck Global) 
 
     pub kept-decided : IsDecided given (path_at may.whole.targets at) (Built (file_at given.past.tree (path_at may.whole.targets at))) (map shown (entries_in given held.value.check)) false
     kept-decided =
-        let kept = due-kept given p (outcomes_of ew) held.value.check (fits given u at held may).is_due stands in
+        let kept = due-kept given p held.value.check (outcomes_of ew) (fits given u at held may).is_due stands in
         let begins : r.begins p al ≡ false = sym (lawful.begins_local p known al kept-alike) ∙ kept.1 in (
           asked,
           record {
@@ -162,7 +157,7 @@ module _ (given : GivenView) (u : Table) (at : ℕ) (held : Box InCheck Global) 
 
     abbrev asks : ((rules_for given).progress (path_at may.whole.targets at) (only (operands (rules_for given) held.value.check.asked) (outcomes_of (table_entries given may.whole))) ≡ record { outcome = None; deps = with_entry held.value.check.asked kinds.Change q }) ×
         ((rules_for given).begins (path_at may.whole.targets at) (only (operands (rules_for given) held.value.check.asked) (outcomes_of (table_entries given may.whole))) ≡ false) × ((rules_for given).is_source q ≡ false) × (IsAmong (operands (rules_for given) held.value.check.asked) q → ⊥)
-    asks = due-asks given p (outcomes_of ew) held.value.check q (fits given u at held may).is_due next
+    asks = due-asks given p held.value.check (outcomes_of ew) (fits given u at held may).is_due q next
 
     asked-now : advanced (rules_for given) (table_entries given may.whole) (slot_entry (rules_for given) (outcomes_at_limit given) (path_at may.whole.targets at) may.taken.old) ≡ record { outcome = None; deps = with_entry held.value.check.asked kinds.Change q }
     asked-now = look-known given u at held may ∙ asks.0
@@ -236,10 +231,10 @@ module _ (given : GivenView) (u : Table) (at : ℕ) (held : Box InCheck Global) 
             (record { held = record held' { value = record held.value { check = record held.value.check { asked = with_entry held.value.check.asked kinds.Change q } } }; path = q })
         checking-raw =
             let due = fits given u at held may in
-            let waits : IsWaitingCheck given p (outcomes_of ew) q (record held.value.check { asked = more }) = due-waits given p (outcomes_of ew) held.value.check q due.is_due next in
+            let waits : IsWaitingCheck given p (outcomes_of ew) q (record held.value.check { asked = more }) = due-waits given p (outcomes_of ew) q held.value.check due.is_due next in
             record {
               is_held = record { found = due.is_held.found; at_first = due.is_held.at_first; none_behind = due.is_held.none_behind };
-              waits = waiting-moves given p (outcomes_of ew) (outcomes_of (table_entries given v)) q (record held.value.check { asked = more }) waits
+              waits = waiting-moves given p (record held.value.check { asked = more }) (outcomes_of ew) (outcomes_of (table_entries given v)) q waits
                   (λ x m other. asked-same x (other-asked x m (λ is'. other (sym is'))));
               answered = λ x m other none. due.answered x (other-asked x m other) (asked-same x (other-asked x m other) ∙ none);
               exact = λ x other. due.exact x ∙ elim (cases_Bool (is_among (operands r asked) x)) as
@@ -248,10 +243,8 @@ module _ (given : GivenView) (u : Table) (at : ℕ) (held : Box InCheck Global) 
                         let m = among-told (operands r asked) x t in
                         only-among (operands r asked) (outcomes_of ew) x m ∙ asked-same x m ∙ sym (only-among (operands r more) (outcomes_of (table_entries given v)) x (asked-still x m))
                     | inr f ↦
-                        let no' : is_among (operands r more) x ≡ false = elim (cases_Bool (is_among (operands r more) x)) [
-                          | inl t ↦ absurd (both_ways _ f (told-among (operands r asked) x (other-asked x (among-told (operands r more) x t) other)))
-                          | inr n ↦ n
-                        ] in
+                        let no' : is_among (operands r more) x ≡ false = false_from_ne_true _ (λ t.
+                        both_ways _ f (told-among (operands r asked) x (other-asked x (among-told (operands r more) x t) other))) in
                         rw (f, no') refl
                   ];
               lacks = due.exact q ∙ elim (cases_Bool (is_among (operands r asked) q)) as (λ _. only (operands r asked) (outcomes_of ew) q ≡ None) [

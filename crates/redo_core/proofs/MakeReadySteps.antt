@@ -11,7 +11,6 @@ use Rattle.redo_record.specs.Paths.{AreDistinct, IsAmong, is_among}
 use Rattle.redo_build.specs.Rules.{Ask, Rules, operands}
 use Rattle.redo_build.specs.Outcomes.{outcome_at}
 use Rattle.redo_build.specs.Schedule.{Entry, outcome_of, outcomes_of, entry_of, only}
-use Rattle.redo_rules.specs.Build.{GivenView, rules_for}
 use Rattle.redo_rules.proofs.Public.{lawful_for}
 use Rattle.redo_core.specs.inside.Works.{all_asked, job_deps, told_in, waited_by, IsWorkWith}
 use Rattle.redo_core.specs.inside.Checking.{IsBegunBehind, TellsAlike}
@@ -20,26 +19,22 @@ use Rattle.redo_core.proofs.AllAskedLemmas.{asked-cases, asked-second}
 use Rattle.redo_core.proofs.CheckingLemmas.{behind-moves}
 use Rattle.redo_record.specs.Entries.{with_all}
 use Rattle.redo_record.specs.declared.deps.Dep.{Dep}
-use Rattle.redo_core.specs.inside.Slots.{outcomes_at_limit, path_at, table_entries, slot_entries, slot_entry, stage_outcome}
-use Rattle.redo_core.specs.inside.Slots.{is_stage_decided, AllFit, Fits, IsDecidedNumber, IsFactAt}
-use Rattle.redo_core.specs.inside.Slots.{IsFed, IsFedAs, Gains}
+use Rattle.redo_core.specs.inside.Slots.{outcomes_at_limit, path_at, table_entries, slot_entries, slot_entry}
+use Rattle.redo_core.specs.inside.Slots.{stage_outcome, is_stage_decided, AllFit, Fits, IsDecidedNumber, IsFactAt}
+use Rattle.redo_core.specs.inside.Slots.{IsFed, IsFedAs, Gains, GivenView, rules_for, Slot, Stage, Table, Waiting}
+use Rattle.redo_core.specs.inside.Slots.{Out, Decided}
 use Rattle.redo_core.specs.declared.facts.Facts.{Facts}
 use Rattle.redo_core.specs.declared.work.Begun.{Begun}
 use Rattle.std.specs.Prelude.{Box}
-use Rattle.redo_core.specs.declared.table.Slot.{Slot}
-use Rattle.redo_core.specs.declared.table.Stage.{Stage}
-use Rattle.redo_core.specs.declared.table.Table.{Table}
-use Rattle.redo_core.specs.declared.table.Stage.TheVariants.{Waiting, Out, Decided}
 use Rattle.redo_build.proofs.DepthLemmas.{cases_Option, operand-target}
 use Rattle.redo_core.proofs.JobLemmas.{asked_of_job, asked_by_job}
 use Rattle.redo_build.proofs.TurnLemmas.{only-among}
 use Rattle.redo_core.proofs.SlotLemmas.{entry_of-slots}
 use Rattle.std.proofs.lemmas.Option.{slice_get_within}
-use Rattle.redo_core.proofs.TableLemmas.{get-set_cases}
-use Rattle.redo_table.proofs.TargetLemmas.{get-other}
+use Rattle.redo_table.proofs.TargetLemmas.{get-other, set-cases}
 use Rattle.redo_core.proofs.TableSteps.{waited-declared, waited-place}
 use Rattle.redo_core.proofs.GainSteps.{decided-fact}
-use Rattle.redo_core.proofs.NumberLemmas.{numbers-number, numbers-path}
+use Rattle.redo_core.proofs.NumberLemmas.{numbers-number, numbers-path, same-some}
 use Rattle.redo_core.specs.Views.{FactView}
 
 -- the slot of an entry
@@ -63,21 +58,20 @@ pub number-kept : (t u : Table) (at : ℕ) (slot gone : Slot) → slice_get t.sl
 number-kept t u at slot gone there undecided slots n d =
     let other : n ≡ at → ⊥ = λ e.
     (let P : ℕ → Type 0 = λ j. slice_get t.slots.items j ≡ Some d.0 in
-    let both : Some d.0 ≡ Some slot = sym (subst P e d.1) ∙ there in
-    let same : d.0 ≡ slot = cc in
+    let same : d.0 ≡ slot = same-some _ _ _ (subst P e d.1) there in
     both_ways _ undecided (sym (ap (λ (y : Slot). is_stage_decided y.stage) same) ∙ d.2)) in
     (d.0, rw slots (get-other t.slots.items at n gone (λ e. other (sym e)) ∙ d.1), d.2)
 
 -- and a fact there is that of the number's path, with an outcome that is known
-pub fact-kept : (given : GivenView) (t u : Table) (at : ℕ) (gone : Slot) → gone.stage ≡ Out → u.slots.items ≡ slice_set t.slots.items at gone →
+pub fact-kept : (given : GivenView) (t u : Table) (at : ℕ) (slot gone : Slot) → slice_get t.slots.items at ≡ Some slot → gone.stage ≡ Out → u.slots.items ≡ slice_set t.slots.items at gone →
     AreDistinct t.targets → AllFit (rules_for given) given.limits.targets given t.targets t.slots.items →
     (n : ℕ) (q : List ℕ) (fact : Shown FactView) → slice_get t.targets n ≡ Some q → IsFactAt u n fact →
     (fact.value.target ≡ q) × (outcomes_of (table_entries given t) q ≡ Some fact.value.outcome)
-fact-kept given t u at gone out slots distinct all n q fact path there =
+fact-kept given t u at slot gone was out slots distinct all n q fact path there =
     let r = rules_for given in
     let a = outcomes_of (table_entries given t) in
     let get : slice_get (slice_set t.slots.items at gone) n ≡ Some there.0 = sym (ap (λ xs. slice_get xs n) slots) ∙ there.1 in
-    elim (get-set_cases t.slots.items at n gone there.0 get) [
+    elim (set-cases t.slots.items at n slot gone there.0 was get) [
       | inl here ↦ absurd (
           let decided : gone.stage ≡ Decided fact = ap (λ (y : Slot). y.stage) here.1 ∙ there.2 in
           let bad : Out ≡ Decided fact = sym out ∙ decided in
@@ -95,8 +89,7 @@ module _ (given : GivenView) (t : Table) (at : ℕ) (on : List ℕ) (slot : Slot
   -- what was fed is this job
   pub fed-here : IsFed given t at on → slice_get t.slots.items at ≡ Some slot → slot.stage ≡ Waiting begun → IsFedAs given t at on slot begun
   fed-here fed there is =
-      let both : Some fed.0 ≡ Some slot = sym fed.2.there ∙ there in
-      let same : fed.0 ≡ slot = cc in
+      let same : fed.0 ≡ slot = same-some _ _ _ fed.2.there there in
       let stages : Waiting fed.1 ≡ Waiting begun = sym fed.2.was ∙ ap (λ (y : Slot). y.stage) same ∙ is in
       let job : fed.1 ≡ begun = cc in
       let P : Slot → Type 0 = λ y. IsFedAs given t at on y fed.1 in
@@ -117,7 +110,7 @@ module _ (given : GivenView) (t : Table) (at : ℕ) (on : List ℕ) (slot : Slot
 
     fact-known : (n : ℕ) (q : List ℕ) (fact : Shown FactView) → slice_get t.targets n ≡ Some q → IsFactAt u n fact →
         (fact.value.target ≡ q) × (outcomes_of (table_entries given t) q ≡ Some fact.value.outcome)
-    fact-known = fact-kept given t u at gone out slots fed.distinct fed.fits
+    fact-known = fact-kept given t u at slot gone fed.there out slots fed.distinct fed.fits
 
     module _ (facts : Facts) (g : Gains u on begun.value.facts facts) where
       abbrev job : JobView

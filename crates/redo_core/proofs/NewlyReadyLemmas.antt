@@ -1,37 +1,32 @@
 -- The newly ready numbers, in order, are those of the entries that an event enqueues.
 use Rattle.std.proofs.Common.{map, slice_get, ◌≡◌, ℕ, zero, suc, ◌+◌, ◌<◌, true, false, is_none, ◌⊎◌, inl, inr, List}
-use Rattle.std.proofs.Common.{[], ◌∷◌, length, filter, ◌↔◌, Option, Some, None, refl, sym, ap, subst, ◌∙◌, arith}
-use Rattle.std.specs.List.{list_any}
-use Rattle.std.proofs.lemmas.Bool.{cases_Bool, cases_lt, both_ways, and_from, not_from_false}
+use Rattle.std.proofs.Common.{[], ◌∷◌, length, filter, ◌↔◌, Some, None, refl, sym, ap, subst, ◌∙◌, arith}
+use Rattle.std.proofs.lemmas.Bool.{cases_lt, both_ways, and_from, not_from_false, false_from_ne_true}
 use Rattle.redo_names.proofs.ListLemmas.{IsAmong-same}
 use Rattle.redo_names.proofs.PathLemmas.{among-told, place-among, told-among}
 use Rattle.redo_record.specs.Paths.{IsAmong, AreDistinct, is_among}
 use Rattle.redo_build.specs.Rules.{Ask, Rules, operands}
-use Rattle.redo_rules.specs.Build.{GivenView, rules_for}
 use Rattle.redo_build.specs.Schedule.{Entry, State, outcomes_of, paths_of, known_to, may_run, lacks_none, only}
-use Rattle.redo_core.specs.inside.Slots.{outcomes_at_limit, rounds_of, state_from, slot_entries, slot_entry, stage_deps, stage_outcome, path_at}
-use Rattle.redo_core.specs.inside.Slots.{is_stage_out, is_stage_ready, is_stage_waiting, AllAnswered}
-use Rattle.redo_core.specs.inside.Slots.{IsTableOf}
+use Rattle.redo_core.specs.inside.Slots.{outcomes_at_limit, rounds_of, state_from, slot_entries, slot_entry}
+use Rattle.redo_core.specs.inside.Slots.{stage_deps, stage_outcome, path_at, is_stage_out, is_stage_ready}
+use Rattle.redo_core.specs.inside.Slots.{is_stage_waiting, AllAnswered, IsTableOf, Fits, IsDueWith, GivenView}
+use Rattle.redo_core.specs.inside.Slots.{rules_for, InCheck, Slot, Table, Stage, Due, Checking, Waiting, Ready, Out}
+use Rattle.redo_core.specs.inside.Slots.{Decided}
 use Rattle.redo_table.specs.Schedule.{EachLacks, IsQueue, stage_at, times}
 use Rattle.redo_table.specs.Schedule.StageView.{Ready as AtReady}
 use Rattle.redo_core.proofs.AgreeLemmas.{agreed-stage, agrees-ready, ready-agrees}
 use Rattle.redo_core.proofs.WaitedLemmas.{waited-lacks}
-use Rattle.redo_core.specs.inside.Slots.{Fits, IsDueWith}
 use Rattle.redo_core.specs.inside.Checking.{IsDueCheck, asks_next}
 use Rattle.redo_core.specs.declared.check.Check.{Check}
-use Rattle.redo_core.specs.declared.table.InCheck.{InCheck}
-use Rattle.redo_core.specs.declared.table.Slot.{Slot}
 use Rattle.redo_core.proofs.CheckingLemmas.{due-asks, due-kept}
 use Rattle.redo_build.proofs.DepthLemmas.{cases_Option}
 use Rattle.std.specs.Prelude.{Box}
 use Rattle.std.proofs.Common.{Global}
-use Rattle.redo_core.specs.declared.table.Table.{Table}
-use Rattle.redo_core.specs.declared.table.Stage.{Stage}
-use Rattle.redo_core.specs.declared.table.Stage.TheVariants.{Due, Checking, Waiting, Ready, Out, Decided}
-use Rattle.redo_build.proofs.SoundLemmas.{may_run-parts, lacks_none-true}
+use Rattle.redo_build.proofs.SoundLemmas.{may_run-parts, lacks_none-from, lacks_none-true}
 use Rattle.redo_core.proofs.EntryLemmas.{path-below}
 use Rattle.redo_core.proofs.SlotLemmas.{length-slots, ready-job}
 use Rattle.std.proofs.lemmas.Option.{slice_get_within}
+use Rattle.redo_core.proofs.RowLemmas.{among-key, key-among}
 use Rattle.redo_core.proofs.PlaceLemmas.{AscendFrom, IsPlace, filter-places, place-times, times-place}
 use Rattle.redo_record.specs.declared.deps.Dep.{Dep}
 
@@ -48,32 +43,12 @@ slot-of-entry r a (p ∷ ps) (s ∷ slots) zero e h = (s, p, refl, refl, (cc))
 slot-of-entry r a (p ∷ ps) (s ∷ slots) (suc i) e h = slot-of-entry r a ps slots i e h
 slot-of-entry r a _ _ i e h = cc
 
-pub among-map : (f : ℕ → List ℕ) (xs : List ℕ) (p : List ℕ) → IsAmong (map f xs) p → (k : ℕ) × IsPlace xs k × (f k ≡ p)
-among-map f [] p m = absurd m
-among-map f (x ∷ xs) p m = elim m [
-  | inl here ↦ (x, inl refl, here)
-  | inr later ↦ let found = among-map f xs p later in (found.0, inr found.1, found.2)
-]
-
-pub map-among : (f : ℕ → List ℕ) (xs : List ℕ) (k : ℕ) → IsPlace xs k → IsAmong (map f xs) (f k)
-map-among f [] k m = absurd m
-map-among f (x ∷ xs) k m = elim m [ inl here ↦ inl (ap f here) | inr later ↦ inr (map-among f xs k later) ]
-
-pub none-lacks : (f : List ℕ → Option Rattle.redo_record.specs.declared.outcome.Outcome.Outcome) (qs : List (List ℕ)) → ((q : List ℕ) → IsAmong qs q → f q ≡ None → ⊥) → list_any (λ q. is_none (f q)) qs ≡ false
-none-lacks f [] h = refl
-none-lacks f (q ∷ qs) h =
-    let rest = none-lacks f qs (λ x m. h x (inr m)) in
-    elim (Rattle.redo_build.proofs.DepthLemmas.cases_Option (f q)) [
-      | inl none ↦ absurd (h q (inl refl) none)
-      | inr some ↦ rw (some.1, rest) refl
-    ]
-
 -- the script of a target isn't begun while its check can go on
 pub due-begins : (given : GivenView) (p : List ℕ) (a : Ask) (c : Check) → IsDueCheck given p a c →
     (rules_for given).begins p (only (operands (rules_for given) c.asked) a) ≡ false
 due-begins given p a c due = elim (cases_Option (asks_next given c)) [
-  | inl none ↦ (due-kept given p a c due none).1
-  | inr some ↦ (due-asks given p a c some.0 due some.1).1
+  | inl none ↦ (due-kept given p c a due none).1
+  | inr some ↦ (due-asks given p c a due some.0 some.1).1
 ]
 
 module _ (given : GivenView) (t : Table) (more : List ℕ) (table : IsTableOf given t) (distinct : AreDistinct t.targets)
@@ -107,16 +82,13 @@ module _ (given : GivenView) (t : Table) (more : List ℕ) (table : IsTableOf gi
       let deps : e.deps ≡ job.0.deps = sym (ap (λ (x : Entry). x.deps) found.4) ∙ subst D (sym job.1) refl in
       let path : e.path ≡ p = sym (ap (λ (x : Entry). x.path) found.4) in
       let P : List Dep → Type 0 = λ ds. AllAnswered r (outcomes_of s.entries) ds in
-      let all : lacks_none r s.entries e ≡ true = not_from_false _ (none-lacks (outcomes_of s.entries) (operands r e.deps) (subst P (sym deps) job.3)) in
-      let away : is_among s.ready e.path ≡ false = elim (cases_Bool (is_among s.ready e.path)) [
-        | inl yes' ↦ absurd (
-            let at = among-map (path_at t.targets) t.schedule.ready e.path (among-told s.ready e.path yes') in
-            let same : at.0 ≡ i = distinct-place t.targets at.0 i p distinct
-            (path-below given t t.schedule.stages table at.0 (staged-below at.0 (queue.are_ready at.0 (place-times t.schedule.ready at.0 at.1))) ∙ ap Some (at.2 ∙ path)) found.3 in
-            let Q : ℕ → Type 0 = IsPlace t.schedule.ready in
-            omega (arith, is_more.1, place-times t.schedule.ready i (subst Q same at.1)))
-        | inr f ↦ f
-      ] in
+      let all : lacks_none r s.entries e ≡ true = lacks_none-from r s.entries e (subst P (sym deps) job.3) in
+      let away : is_among s.ready e.path ≡ false = false_from_ne_true _ (λ yes'.
+      let at = among-key (path_at t.targets) t.schedule.ready e.path (among-told s.ready e.path yes') in
+      let same : at.0 ≡ i = distinct-place t.targets at.0 i p distinct
+      (path-below given t t.schedule.stages table at.0 (staged-below at.0 (queue.are_ready at.0 (place-times t.schedule.ready at.0 at.1))) ∙ ap Some (at.2 ∙ path)) found.3 in
+      let Q : ℕ → Type 0 = IsPlace t.schedule.ready in
+      omega (arith, is_more.1, place-times t.schedule.ready i (subst Q same at.1))) in
       let here : path_at t.targets i ≡ e.path = (let same : path_at t.targets i ≡ p = rw found.3 refl in same) ∙ sym path in
       let B : List ℕ → List Dep → Type 0 = λ q ds. r.begins q (only (operands r ds) (outcomes_of s.entries)) ≡ true in
       let A : List ℕ → Type 0 = λ q. B q work.deps in
@@ -146,7 +118,7 @@ module _ (given : GivenView) (t : Table) (more : List ℕ) (table : IsTableOf gi
               let staged = stage.1 ∙ ap Some (ready-agrees r t.targets slot.stage stage.0 stage.2 ready) in
               elim (cases_lt 0 (times i t.schedule.ready)) [
                 | inl queued ↦ absurd (both_ways _ parts.3 (told-among s.ready e.path
-                    (IsAmong-same s.ready (path_at t.targets i) e.path (here ∙ sym path) (map-among (path_at t.targets) t.schedule.ready i (times-place t.schedule.ready i queued)))))
+                    (IsAmong-same s.ready (path_at t.targets i) e.path (here ∙ sym path) (key-among (path_at t.targets) t.schedule.ready i (times-place t.schedule.ready i queued)))))
                 | inr none ↦ (are_more i).1 (staged, omega (arith, none))
               ]
           | inr due ↦ absurd (

@@ -1,11 +1,13 @@
 -- Numbers of paths.
-use Rattle.std.proofs.Common.{slice_get, ◌≡◌, ℕ, zero, suc, List, [], ◌∷◌, ◌++◌, Some, refl, subst}
+use Rattle.std.proofs.Common.{slice_get, ◌≡◌, ℕ, zero, suc, List, [], ◌∷◌, ◌++◌, Some, refl, subst, Option, sym, ◌∙◌}
 use Rattle.redo_build.specs.Rules.{Rules}
 use Rattle.redo_table.specs.Schedule.{StageView}
-use Rattle.redo_core.specs.inside.Slots.{Agrees, AreNumbers}
+use Rattle.redo_core.specs.inside.Slots.{Agrees, AreNumbers, Stage, Checking, Waiting}
 use Rattle.redo_core.specs.inside.Works.{waited_by}
-use Rattle.redo_core.specs.declared.table.Stage.{Stage}
-use Rattle.redo_core.specs.declared.table.Stage.TheVariants.{Checking, Waiting}
+
+-- what was read twice is one
+pub same-some : {X : Type 0} (o : Option X) (x y : X) → o ≡ Some x → o ≡ Some y → x ≡ y
+same-some o x y here there = let both : Some x ≡ Some y = sym here ∙ there in cc
 
 module _ (ps : List (List ℕ)) where
   -- the path of a number

@@ -1,5 +1,5 @@
 -- The opening of a build on the table.
-use Rattle.std.proofs.Common.{slice_get, ◌≡◌, ℕ, ◌+◌, ◌*◌, ◌<◌, ◌≤◌, Bool, true, false, cond, not, ◌⊎◌, List, [], ◌∷◌}
+use Rattle.std.proofs.Common.{slice_get, ◌≡◌, ℕ, ◌+◌, ◌*◌, ◌<◌, ◌≤◌, true, false, cond, not, List, [], ◌∷◌}
 use Rattle.std.proofs.Common.{◌++◌, Some, inl, inr, length, take, drop, take-append-drop, refl, sym, ap, subst}
 use Rattle.std.proofs.Common.{◌∙◌, arith}
 use Rattle.std.proofs.lemmas.Bool.{cases_Bool}
@@ -11,7 +11,6 @@ use Rattle.redo_build.specs.Rules.{Rules}
 use Rattle.redo_build.specs.Outcomes.{IsTooMany}
 use Rattle.redo_build.specs.Schedule.{Entry, State, paths_of, entered, enqueued, opening, out_count}
 use Rattle.redo_build.specs.inside.Standing.{AreStanding}
-use Rattle.redo_rules.specs.Build.{GivenView, rules_for}
 use Rattle.redo_rules.proofs.Public.{lawful_for}
 use Rattle.redo_core.specs.declared.board.Board.TheInside.{Inside}
 use Rattle.redo_build.proofs.QuietLemmas.{is_part}
@@ -20,15 +19,15 @@ use Rattle.redo_build.specs.TakesLeft.{takes_left}
 use Rattle.redo_build.proofs.CountLemmas.{opening-left, opening-out}
 use Rattle.redo_build.proofs.StillLemmas.{looked-count}
 use Rattle.redo_table.specs.Schedule.{StageView, ScheduleView, EachLacks, NoneDue, no_targets, stage_at}
-use Rattle.redo_table.specs.Schedule.StageView.{Due as AtDue, Ready as AtReady, InHand as AtHand, Waiting as AtWaiting, Decided as AtDecided}
-use Rattle.redo_core.specs.inside.Slots.{IsKept, table_entries, table_state, targets_in}
-use Rattle.redo_core.specs.inside.Slots.{AreEnteredInto, AreEnqueued, IsFirstTable, IsLookedOn, rules_inside, state_of}
+use Rattle.redo_table.specs.Schedule.StageView.{InHand as AtHand, Waiting as AtWaiting}
+use Rattle.redo_core.specs.inside.Slots.{is_fresh, IsKept, table_entries, table_state, targets_in, AreEnteredInto}
+use Rattle.redo_core.specs.inside.Slots.{AreEnqueued, IsFirstTable, IsLookedOn, rules_inside, state_of, GivenView}
+use Rattle.redo_core.specs.inside.Slots.{rules_for, Table}
 use Rattle.redo_core.proofs.LookLemmas.{none_due}
 use Rattle.redo_build.proofs.LookedLemmas.{looked-left, looked-longer}
-use Rattle.redo_core.specs.declared.table.Table.{Table}
-use Rattle.redo_build.proofs.SeenLemmas.{paths_of-entered, entered-longer}
+use Rattle.redo_build.proofs.SeenLemmas.{paths_of-entered}
 use Rattle.redo_build.proofs.SoundLemmas.{IsSound, opening-sound}
-use Rattle.redo_core.proofs.EnterAllLemmas.{entered-append, entered-seen, path-take}
+use Rattle.redo_core.proofs.EnterAllLemmas.{entered-append, entered-seen, path-take, too-many-behind}
 use Rattle.redo_core.proofs.EnqueueLemmas.{enqueued-resting, enqueued-table, enqueued-state}
 
 pub targets-more : (r : Rules) (ps : List (List ℕ)) (i : ℕ) (p : List ℕ) → slice_get ps i ≡ Some p → targets_in r (take (i + 1) ps) ≡ targets_in r (take i ps) ++ targets_in r (p ∷ [])
@@ -44,14 +43,12 @@ no-target r p h = rw h refl
 pub too-many-requested : (r : Rules) (es mid : List Entry) (limit : ℕ) (ps : List (List ℕ)) (i : ℕ) (p : List ℕ) → slice_get ps i ≡ Some p → not (r.is_source p) ≡ true →
     mid ≡ entered r es (targets_in r (take i ps)) → limit < length (entered r mid (p ∷ [])) → limit < length (entered r es (targets_in r ps))
 too-many-requested r es mid limit ps i p get is at many =
-    let test : List ℕ → Bool = λ q. not (r.is_source q) in
+    let L : List (List ℕ) → Type 0 = λ xs. limit < length (entered r es xs) in
+    let back = targets_in r (drop (i + 1) ps) in
     let front = targets-more r ps i p get ∙ ap (λ xs. targets_in r (take i ps) ++ xs) (one-target r p is) in
-    let both = ap (targets_in r) (sym (take-append-drop (i + 1) ps)) ∙ filter-append test (take (i + 1) ps) (drop (i + 1) ps) in
-    let so_far : entered r mid (p ∷ []) ≡ entered r es (targets_in r (take (i + 1) ps)) =
-    ap (λ xs. entered r xs (p ∷ [])) at ∙ sym (entered-append r es (targets_in r (take i ps)) (p ∷ [])) ∙ ap (entered r es) (sym front) in
-    let all : entered r es (targets_in r ps) ≡ entered r (entered r es (targets_in r (take (i + 1) ps))) (targets_in r (drop (i + 1) ps)) =
-    ap (entered r es) both ∙ entered-append r es (targets_in r (take (i + 1) ps)) (targets_in r (drop (i + 1) ps)) in
-    omega (arith, many, ap length so_far, ap length all, entered-longer r (entered r es (targets_in r (take (i + 1) ps))) (targets_in r (drop (i + 1) ps)))
+    let whole = ap (λ xs. xs ++ back) (sym front) ∙ sym (filter-append (λ q. not (r.is_source q)) (take (i + 1) ps) (drop (i + 1) ps))
+    ∙ ap (targets_in r) (take-append-drop (i + 1) ps) in
+    subst L whole (too-many-behind r es mid limit (targets_in r (take i ps)) back p at many)
 
 entered-new : (r : Rules) (es : List Entry) (ps qs : List (List ℕ)) → entered r es (with_new ps qs) ≡ entered r (entered r es ps) qs
 entered-new r es ps [] = refl
@@ -84,15 +81,13 @@ first-is given t u v keys slots schedule a w =
     let before : table_state given u ≡ T (opening r request).entries [] = (let numbers : table_state given u ≡ T (table_entries given u) [] = rw ready refl in numbers ∙ ap (λ xs. T xs []) entries) in
     record {
       table = enqueued-table given request u v a.table standing lacks w;
-      resting = enqueued-resting given request u v a.table standing lacks w (λ k h. elim (fresh k AtHand h) as (λ _. ⊥) [
-        | inl due ↦ cc
-        | inr other ↦ elim other as (λ _. ⊥) [ inl is ↦ cc | inr decided ↦ cc ]
-      ]);
+      resting = enqueued-resting given request u v a.table standing lacks w (λ k h.
+          absurd (let bad : false ≡ true = fresh k AtHand h in cc));
       state = enqueued-state given request u v a.table standing lacks w ∙ ap (enqueued r) before;
     }
   where
     -- each target is due, ready or decided
-    fresh : (k : ℕ) (s : StageView) → stage_at u.schedule k ≡ Some s → (s ≡ AtDue) ⊎ ((s ≡ AtReady) ⊎ (s ≡ AtDecided))
+    fresh : (k : ℕ) (s : StageView) → stage_at u.schedule k ≡ Some s → is_fresh s ≡ true
     fresh k s h = elim (a.fresh k s h) [
       | inl old ↦ absurd (let bad : slice_get {X = StageView} [] k ≡ Some s = sym (ap (λ (x : ScheduleView). stage_at x k) schedule) ∙ old in none-there k s bad)
       | inr new ↦ new
@@ -102,10 +97,7 @@ first-is given t u v keys slots schedule a w =
         none-there j x g = cc
 
     lacks : EachLacks u.schedule.stages
-    lacks k on h = absurd (elim (fresh k (AtWaiting on) h) as (λ _. ⊥) [
-      | inl due ↦ cc
-      | inr other ↦ elim other as (λ _. ⊥) [ inl is ↦ cc | inr decided ↦ cc ]
-    ])
+    lacks k on h = absurd (let bad : false ≡ true = fresh k (AtWaiting on) h in cc)
 
 -- what a board has come to that was opened and has looked ahead
 module _ (b : Inside) (t : Table) (first : IsFirstTable b.build t) (ahead : IsLookedOn b.build t b.table) (none : NoneDue b.table.schedule) where

@@ -1,18 +1,18 @@
 -- A filter over entries that passes at ascending places gives the paths at these places.
-use Rattle.std.proofs.Common.{◌≡◌, ℕ, suc, ◌+◌, ◌<◌, ◌≤◌, ◌⊎◌, Bool, true, inl, inr, List, [], ◌∷◌, map, length, filter}
+use Rattle.std.proofs.Common.{◌≡◌, ℕ, suc, ◌+◌, ◌<◌, ◌≤◌, Bool, true, inl, inr, List, [], ◌∷◌, map, length, filter}
 use Rattle.std.proofs.Common.{slice_get, slice_index_or, Some, refl, sym, ap, ap₂, subst, ◌∙◌, arith}
 use Rattle.std.proofs.lemmas.Bool.{cases_Bool, cases_eq}
 use Rattle.redo_build.specs.Schedule.{Entry, paths_of}
 use Rattle.std.specs.Prelude.{AllPairs}
 use Rattle.std.specs.List.Sorted.{IsStrictlyIncreasing}
 use Rattle.std.proofs.lemmas.List.Kept.{AllPairs-from_increasing}
+use Rattle.redo_past.proofs.ItemLemmas.{IsItem}
 use Rattle.redo_table.specs.Schedule.{times}
 use Rattle.redo_table.proofs.NumberLemmas.{at-same, at-other, times-cons, times-nil}
 
 -- a number stands in a list
 abbrev pub IsPlace : List ℕ → ℕ → Type 0
-IsPlace [] k = ⊥
-IsPlace (i ∷ is) k = (i ≡ k) ⊎ IsPlace is k
+IsPlace = IsItem
 
 pub times-place : (xs : List ℕ) (k : ℕ) → 0 < times k xs → IsPlace xs k
 times-place [] k h = absurd (omega (arith, h, times-nil k))

@@ -6,23 +6,18 @@ use Rattle.std.specs.Prelude.{Box}
 use Rattle.redo_record.specs.Paths.{AreDistinct}
 use Rattle.redo_build.specs.Rules.{Ask, Rules, Extends}
 use Rattle.redo_build.specs.Schedule.{outcomes_of, put}
-use Rattle.redo_rules.specs.Build.{GivenView, rules_for}
 use Rattle.redo_rules.proofs.Public.{lawful_for}
 use Rattle.redo_table.specs.Schedule.{StageView, ScheduleView, stage_at}
 use Rattle.redo_table.specs.Schedule.StageView.{InHand as AtHand, Waiting as AtWaiting, Decided as AtDecided}
 use Rattle.redo_table.proofs.TargetLemmas.{set-cases}
 use Rattle.redo_sync.specs.Shown.{Shown}
 use Rattle.redo_core.specs.Views.{FactView}
-use Rattle.redo_core.specs.inside.Slots.{outcomes_at_limit, table_entries, entries_from, slot_entry, stage_outcome, path_at, Agrees, AreNumbers, Fits}
-use Rattle.redo_core.specs.inside.Slots.{IsTable, IsTableOf, IsPutBack, IsDecidedAt, IsParkedAt}
-use Rattle.redo_core.specs.inside.Slots.{IsWaitingWith, IsAskedAt, IsCheckingWith}
+use Rattle.redo_core.specs.inside.Slots.{outcomes_at_limit, table_entries, entries_from, slot_entry, stage_outcome}
+use Rattle.redo_core.specs.inside.Slots.{path_at, Agrees, AreNumbers, Fits, IsTable, IsTableOf, IsPutBack}
+use Rattle.redo_core.specs.inside.Slots.{IsDecidedAt, IsParkedAt, IsWaitingWith, IsAskedAt, IsCheckingWith, GivenView}
+use Rattle.redo_core.specs.inside.Slots.{rules_for, Awaiting, Slot, Table, Stage, Checking, Waiting, Decided}
 use Rattle.redo_core.specs.inside.Works.{waited_by}
 use Rattle.redo_core.specs.declared.work.Begun.{Begun}
-use Rattle.redo_core.specs.declared.table.Awaiting.{Awaiting}
-use Rattle.redo_core.specs.declared.table.Slot.{Slot}
-use Rattle.redo_core.specs.declared.table.Table.{Table}
-use Rattle.redo_core.specs.declared.table.Stage.{Stage}
-use Rattle.redo_core.specs.declared.table.Stage.TheVariants.{Checking, Waiting, Decided}
 use Rattle.redo_core.proofs.AgreeLemmas.{agreed-set, agreed-stage}
 use Rattle.redo_core.proofs.EntryLemmas.{path-there}
 use Rattle.redo_core.proofs.SlotLemmas.{slot_entries-set}

@@ -10,7 +10,6 @@ use Rattle.redo_names.proofs.PathLemmas.{place-among}
 use Rattle.redo_tree.specs.Tree.{file_at}
 use Rattle.redo_record.specs.declared.outcome.Outcome.{Outcome}
 use Rattle.redo_record.specs.declared.outcome.Outcome.TheVariants.{Built, Cyclic, Source as Is_source}
-use Rattle.redo_rules.specs.Build.{GivenView, rules_for}
 use Rattle.redo_build.specs.Outcomes.{outcome_at, needed_at, final_outcome, record_of}
 use Rattle.redo_record.specs.Paths.{IsAmong, AreDistinct}
 use Rattle.redo_core.specs.inside.Reported.{row_files, row_begun}
@@ -24,22 +23,19 @@ use Rattle.redo_table.specs.Schedule.StageView.{Ready as AtReady}
 use Rattle.redo_table.proofs.NumberLemmas.{times-nil}
 use Rattle.redo_core.proofs.AgreeLemmas.{agreed-stage, due-agrees, ready-agrees}
 use Rattle.redo_core.proofs.WaitedLemmas.{waited-lacks}
-use Rattle.redo_core.specs.inside.Slots.{outcomes_at_limit, Agrees, Fits, IsKept, IsTableOf, entries_from, is_stage_due}
-use Rattle.redo_core.specs.inside.Slots.{is_stage_out, is_stage_ready, is_stage_waiting, path_at, rounds_of, rules_inside}
-use Rattle.redo_core.specs.inside.Slots.{slot_entries, stage_deps, stage_outcome, state_of}
+use Rattle.redo_core.specs.inside.Slots.{outcomes_at_limit, Agrees, Fits, IsKept, IsTableOf, entries_from}
+use Rattle.redo_core.specs.inside.Slots.{is_stage_due, is_stage_out, is_stage_ready, is_stage_waiting, path_at}
+use Rattle.redo_core.specs.inside.Slots.{rounds_of, rules_inside, slot_entries, stage_deps, stage_outcome, state_of}
+use Rattle.redo_core.specs.inside.Slots.{GivenView, rules_for, Slot, Stage, Due, Checking, Waiting, Ready, Out, Table}
 use Rattle.redo_core.specs.Views.{BoardView, IsQuietBoard, rules_on}
 use Rattle.redo_core.specs.declared.board.Board.TheInside.{Inside}
 use Rattle.redo_build.specs.Theorems.{ShowsBuild}
 use Rattle.redo_report.specs.declared.report.Report.{Report}
 use Rattle.redo_report.specs.declared.report.Row.{Row}
-use Rattle.redo_core.specs.declared.table.Slot.{Slot}
-use Rattle.redo_core.specs.declared.table.Stage.{Stage}
-use Rattle.redo_core.specs.declared.table.Stage.TheVariants.{Due, Checking, Waiting, Ready, Out}
-use Rattle.redo_core.specs.declared.table.Table.{Table}
 use Rattle.redo_core.proofs.CheckingLemmas.{number-within}
 use Rattle.redo_core.proofs.OrderLemmas.{AreSorted, ascending-sorted, sorted-ascending}
 use Rattle.redo_past.proofs.ItemLemmas.{IsItem, item-contained, contained-item, of-item}
-use Rattle.redo_core.proofs.RowLemmas.{all_rows, path_row, row_path}
+use Rattle.redo_core.proofs.RowLemmas.{all_rows, among-key, key-among}
 use Rattle.redo_core.proofs.RowLemmas.{begun-from, begun-sorted, begun-to, file_row, files_sorted, row_file}
 use Rattle.redo_core.proofs.RowLemmas.{rows-all}
 use Rattle.redo_core.proofs.ShownLemmas.{IsOfBuild, LacksOne, stage-shown}
@@ -145,7 +141,7 @@ module _ (given : GivenView) (t : Table) (s : State)
     right : AllByRecursion IsRight report.rows.items
     right = rows-all given t IsRight report.rows.items made.bits made.rows (λ row bit m is. elim is [
       | inl target ↦ target-right row bit target
-      | inr other ↦ elim ((made.paths.members row.path).0 (row_path report.rows.items row m)) [
+      | inr other ↦ elim ((made.paths.members row.path).0 (key-among (λ (row : Row). row.path) report.rows.items row m)) [
         | inl key ↦ absurd (other.absent key)
         | inr source ↦ source-right row bit source.1 other
       ]
@@ -170,13 +166,13 @@ module _ (given : GivenView) (t : Table) (s : State)
     file-from f m =
         let found = file_row report.rows.items f m in
         let built : final_outcome r given.limits.targets found.0.path ≡ Built (Some f.1) = sym (right-row found.0 found.1).0 ∙ found.2 in
-        let there = built-needed found.0.path f.1 (row_path report.rows.items found.0 found.1) built in
+        let there = built-needed found.0.path f.1 (key-among (λ (row : Row). row.path) report.rows.items found.0 found.1) built in
         let P : List ℕ → Type 0 = λ p. IsAmong (needed_at r given.request given.limits.targets) p × (final_outcome r given.limits.targets p ≡ Built (Some f.1)) in
         subst P found.3 (there, built)
 
     file-to : (p bytes : List ℕ) → IsAmong (needed_at (rules_for given) given.request given.limits.targets) p → final_outcome (rules_for given) given.limits.targets p ≡ Built (Some bytes) → IsItem (row_files report.rows.items) (p, bytes)
     file-to p bytes m built =
-        let found = path_row report.rows.items p ((made.paths.members p).1 (inl (needed-key p m))) in
+        let found = among-key (λ (row : Row). row.path) report.rows.items p ((made.paths.members p).1 (inl (needed-key p m))) in
         let is : found.0.outcome ≡ Built (Some bytes) = (right-row found.0 found.1).0 ∙ ap (final_outcome r given.limits.targets) found.2 ∙ built in
         let P : List ℕ → Type 0 = λ x. IsItem (row_files report.rows.items) (x, bytes) in
         subst P found.2 (row_file report.rows.items found.0 bytes found.1 is)
@@ -209,7 +205,7 @@ module _ (given : GivenView) (t : Table) (s : State)
                 begun-from given t IsBegunPath report.rows.items made.bits made.rows (λ row i is. begun-row row is) p (subst G made.begun m),
             λ m.
                 let G : List (List ℕ) → Type 0 = λ ps. IsAmong ps p in
-                let found = path_row report.rows.items p ((made.paths.members p).1 (inl (needed-key p m.0))) in
+                let found = among-key (λ (row : Row). row.path) report.rows.items p ((made.paths.members p).1 (inl (needed-key p m.0))) in
                 let there : IsBegunPath found.0.path = subst IsBegunPath (sym found.2) m in
                 let H : List ℕ → Type 0 = λ x. IsAmong (row_begun report.rows.items made.bits) x in
                 subst G (sym made.begun) (subst H found.2 (begun-to given t report.rows.items made.bits made.rows found.0 found.1 (row-begun found.0 there))),

@@ -14,38 +14,31 @@ use Rattle.redo_build.specs.inside.Turns.{IsWork}
 use Rattle.redo_build.proofs.DepthLemmas.{cases_Option}
 use Rattle.redo_build.proofs.HandoverLemmas.{taken-deep}
 use Rattle.redo_build.proofs.TurnLemmas.{only-among}
-use Rattle.redo_rules.specs.Build.{GivenView, rules_for}
 use Rattle.redo_rules.proofs.Public.{lawful_for}
 use Rattle.redo_core.specs.Views.{FactView, WorkView}
 use Rattle.redo_core.specs.inside.Checking.{IsBegunBehind, IsDueCheck, IsWaitingCheck}
 use Rattle.redo_record.specs.declared.outcome.Outcome.{Outcome}
 use Rattle.std.specs.Prelude.{IfOk, Result, Ok, Err}
 use Rattle.redo_core.specs.inside.Works.{AddsFact, found_as, told_in}
-use Rattle.redo_core.specs.inside.Slots.{outcomes_at_limit, AllAnswered, Fits, IsAnsweredCheck, IsAnsweredAs, IsCheckingWith}
-use Rattle.redo_core.specs.inside.Slots.{GainsOne, GoesOnWith, IsDecidedNumber, IsDueWith, IsFactAt, IsFallen, IsParked}
-use Rattle.redo_core.specs.inside.Slots.{path_at, rounds_of}
-use Rattle.redo_core.specs.inside.Slots.{is_stage_decided}
-use Rattle.redo_core.specs.inside.Slots.{slot_entry, stage_deps, stage_outcome, table_entries}
+use Rattle.redo_core.specs.inside.Slots.{outcomes_at_limit, AllAnswered, Fits, IsAnsweredCheck, IsAnsweredAs}
+use Rattle.redo_core.specs.inside.Slots.{IsCheckingWith, GainsOne, GoesOnWith, IsDecidedNumber, IsDueWith, IsFactAt}
+use Rattle.redo_core.specs.inside.Slots.{IsFallen, IsParked, path_at, rounds_of, is_stage_decided, slot_entry}
+use Rattle.redo_core.specs.inside.Slots.{stage_deps, stage_outcome, table_entries, GivenView, rules_for, Awaiting}
+use Rattle.redo_core.specs.inside.Slots.{InCheck, Slot, Stage, Checking, Out, Table}
 use Rattle.redo_core.specs.declared.check.Check.{Check}
 use Rattle.redo_core.specs.declared.facts.Facts.{Facts}
-use Rattle.redo_core.specs.declared.table.Awaiting.{Awaiting}
-use Rattle.redo_core.specs.declared.table.InCheck.{InCheck}
-use Rattle.redo_core.specs.declared.table.Slot.{Slot}
-use Rattle.redo_core.specs.declared.table.Stage.{Stage}
-use Rattle.redo_core.specs.declared.table.Stage.TheVariants.{Checking, Out}
-use Rattle.redo_core.specs.declared.table.Table.{Table}
 use Rattle.redo_core.proofs.CheckingLemmas.{behind-moves, number-within, waiting-asked}
 use Rattle.redo_core.proofs.SlotLemmas.{entry_of-slots}
 use Rattle.redo_core.proofs.TableLemmas.{answered-alike}
 use Rattle.redo_build.proofs.SoundLemmas.{only-same}
 use Rattle.redo_core.proofs.MakeReadySteps.{fact-kept, number-kept}
+use Rattle.redo_core.proofs.NumberLemmas.{same-some}
 
 module _ (given : GivenView) (t : Table) (at place : ℕ) (slot : Slot) (awaiting : Awaiting) where
   -- what is answered is this check
   pub answered-here : IsAnsweredCheck given t at place → slice_get t.slots.items at ≡ Some slot → slot.stage ≡ Checking awaiting → IsAnsweredAs given t at place slot awaiting
   answered-here answered there is =
-      let both : Some answered.0 ≡ Some slot = sym answered.2.there ∙ there in
-      let same : answered.0 ≡ slot = cc in
+      let same : answered.0 ≡ slot = same-some _ _ _ answered.2.there there in
       let stages : Checking answered.1 ≡ Checking awaiting = sym answered.2.was ∙ ap (λ (y : Slot). y.stage) same ∙ is in
       let check : answered.1 ≡ awaiting = cc in
       let P : Slot → Type 0 = λ y. IsAnsweredAs given t at place y answered.1 in
@@ -72,7 +65,7 @@ module _ (given : GivenView) (t : Table) (at place : ℕ) (slot : Slot) (awaitin
     check-within = number-within given p awaiting.held.value.check.number checking.waits.in_check
 
     pub check-asked : IsAmong (operands (rules_for given) awaiting.held.value.check.asked) awaiting.path
-    check-asked = waiting-asked given p a awaiting.path awaiting.held.value.check checking.waits
+    check-asked = waiting-asked given p awaiting.held.value.check a awaiting.path checking.waits
 
     module _ (u : Table) (gone : Slot) (out : gone.stage ≡ Out) (slots : u.slots.items ≡ slice_set t.slots.items at gone) where
       pub answer-there : IsDecidedNumber u place
@@ -80,7 +73,7 @@ module _ (given : GivenView) (t : Table) (at place : ℕ) (slot : Slot) (awaitin
 
       module _ (fact : Shown FactView) (there : IsFactAt u place fact) where
         here : (fact.value.target ≡ awaiting.path) × (outcomes_of (table_entries given t) awaiting.path ≡ Some fact.value.outcome)
-        here = fact-kept given t u at gone out slots answer.distinct answer.fits place awaiting.path fact answer.number there
+        here = fact-kept given t u at slot gone answer.there out slots answer.distinct answer.fits place awaiting.path fact answer.number there
 
         pub answer-known : outcomes_of (table_entries given t) awaiting.path ≡ Some fact.value.outcome
         answer-known = here.1

@@ -20,10 +20,9 @@ use Rattle.redo_names.proofs.ListLemmas.{IsAmong-append, IsAmong-left, IsAmong-r
 use Rattle.redo_record.specs.declared.outcome.Outcome.{Outcome}
 use Rattle.redo_record.specs.declared.outcome.Outcome.TheVariants.{Built}
 use Rattle.redo_record.specs.Paths.{IsAmong}
-use Rattle.redo_core.specs.declared.table.Table.{Table}
+use Rattle.redo_core.specs.inside.Slots.{Table, GivenView}
 use Rattle.redo_core.specs.inside.Reported.{AreRowsOf, IsRowOf, file_of, row_files, row_begun, sources_among}
 use Rattle.redo_report.specs.declared.report.Row.{Row}
-use Rattle.redo_rules.specs.Build.{GivenView}
 use Rattle.redo_core.proofs.OrderLemmas.{IsBefore, AreSorted, sorted-ascending}
 use Rattle.redo_build.proofs.QueueLemmas.{filter-keeps}
 use Rattle.redo_past.proofs.ItemLemmas.{IsItem, contained-item, item-contained}
@@ -34,16 +33,17 @@ pub all_rows : {X : Type 0} (P : X → Type 0) (xs : List X) → AllByRecursion 
 all_rows P [] h = All-nil P
 all_rows P (x ∷ xs) h = All-cons P x xs h.0 (all_rows P xs h.1)
 
-pub path_row : (rows : List Row) (p : List ℕ) → IsAmong (map (λ row. row.path) rows) p → (row : Row) × IsItem rows row × (row.path ≡ p)
-path_row [] p m = absurd m
-path_row (row ∷ rows) p m = elim m [
-  | inl here ↦ (row, inl refl, here)
-  | inr later ↦ let found = path_row rows p later in (found.0, inr found.1, found.2)
-]
+module _ {X : Type 0} (key : X → List ℕ) where
+  pub key-among : (xs : List X) (x : X) → IsItem xs x → IsAmong (map key xs) (key x)
+  key-among [] x m = absurd m
+  key-among (y ∷ xs) x m = elim m [ inl here ↦ inl (ap key here) | inr later ↦ inr (key-among xs x later) ]
 
-pub row_path : (rows : List Row) (row : Row) → IsItem rows row → IsAmong (map (λ row. row.path) rows) row.path
-row_path [] row m = absurd m
-row_path (x ∷ rows) row m = elim m [ inl here ↦ inl (ap (λ (y : Row). y.path) here) | inr later ↦ inr (row_path rows row later) ]
+  pub among-key : (xs : List X) (p : List ℕ) → IsAmong (map key xs) p → (x : X) × IsItem xs x × (key x ≡ p)
+  among-key [] p m = absurd m
+  among-key (y ∷ xs) p m = elim m [
+    | inl here ↦ (y, inl refl, here)
+    | inr later ↦ let found = among-key xs p later in (found.0, inr found.1, found.2)
+  ]
 
 -- One row more
 
@@ -116,24 +116,13 @@ files-added rows row =
 -- Paths in order, each once
 
 module _ {X : Type 0} (key : X → List ℕ) where
-  key-among : (xs : List X) (x : X) → IsItem xs x → IsAmong (map key xs) (key x)
-  key-among [] x m = absurd m
-  key-among (y ∷ xs) x m = elim m [ inl here ↦ inl (ap key here) | inr later ↦ inr (key-among xs x later) ]
-
-  among-key : (xs : List X) (p : List ℕ) → IsAmong (map key xs) p → (x : X) × IsItem xs x × (key x ≡ p)
-  among-key [] p m = absurd m
-  among-key (y ∷ xs) p m = elim m [
-    | inl here ↦ (y, inl refl, here)
-    | inr later ↦ let found = among-key xs p later in (found.0, inr found.1, found.2)
-  ]
-
   -- a list in another order has the same keys
   permuted-among : (xs ys : List X) (p : List ℕ) → IsPermutation xs ys → IsAmong (map key xs) p → IsAmong (map key ys) p
   permuted-among xs ys p same m =
-      let found = among-key xs p m in
+      let found = among-key key xs p m in
       let there = contained-item ys found.0 (Contains-permutation xs ys found.0 same (item-contained xs found.0 found.1)) in
       let P : List ℕ → Type 0 = IsAmong (map key ys) in
-      subst P found.2 (key-among ys found.0 there)
+      subst P found.2 (key-among key ys found.0 there)
 
   module _ (same : X → X → Bool) (alike : (x y : X) → same x y ≡ true → key x ≡ key y) where
     -- a list without doubles has the same keys

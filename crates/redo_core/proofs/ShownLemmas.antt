@@ -3,7 +3,7 @@ use Rattle.std.proofs.Common.{◌≡◌, ℕ, zero, suc, ◌+◌, ◌<◌, Bool,
 use Rattle.std.proofs.Common.{Some, None, refl, sym, ap, subst, ◌∙◌, arith}
 use Rattle.std.specs.Prelude.{Box, bytes_eq, unwrap_or}
 use Rattle.std.specs.declared.alloc.Global.{Global}
-use Rattle.std.proofs.lemmas.Bool.{and_from, cases_Bool}
+use Rattle.std.proofs.lemmas.Bool.{and_from, and_right, cases_Bool}
 use Rattle.std.proofs.lemmas.Slice.Eq.{bytes_eq-Decides}
 use Rattle.redo_record.specs.declared.deps.Dep.{Dep}
 use Rattle.redo_record.specs.declared.outcome.Outcome.{Outcome}
@@ -16,17 +16,15 @@ use Rattle.redo_which.specs.Rule.{found_of}
 use Rattle.redo_build.specs.Outcomes.{outcome_at, record_of}
 use Rattle.redo_build.specs.Rules.{AreLawful, Ask, Extends, Rules, asked_under, operands}
 use Rattle.redo_build.proofs.DepthLemmas.{cases_Option, deeper, operand-target, outcome_at-step}
-use Rattle.redo_rules.specs.Build.{GivenView, rules_for, sources_for}
 use Rattle.redo_rules.proofs.Public.{lawful_for, plain_lawful}
 use Rattle.redo_core.specs.inside.Checking.{TellsAlike}
 use Rattle.redo_core.specs.inside.Decided.{IsDecided}
 use Rattle.redo_core.specs.inside.Reported.{IsBegunAs, IsShown}
 use Rattle.redo_core.specs.inside.Slots.{outcomes_at_limit, Fits, IsCheckingWith, IsWaitingWith, stage_outcome}
+use Rattle.redo_core.specs.inside.Slots.{GivenView, rules_for, sources_for, Awaiting, Stage, Checking, Waiting}
+use Rattle.redo_core.specs.inside.Slots.{Decided}
 use Rattle.redo_core.specs.inside.Works.{all_asked, job_deps, told_in}
-use Rattle.redo_core.specs.declared.table.Awaiting.{Awaiting}
 use Rattle.redo_core.specs.declared.work.Begun.{Begun}
-use Rattle.redo_core.specs.declared.table.Stage.{Stage}
-use Rattle.redo_core.specs.declared.table.Stage.TheVariants.{Checking, Waiting, Decided}
 use Rattle.redo_core.proofs.CheckingLemmas.{waiting-shows}
 use Rattle.redo_core.proofs.AllAskedLemmas.{asked-cases, told-alike}
 
@@ -35,10 +33,6 @@ later_deps job h = (elim (job.turn) as (λ (n : ℕ). 0 < n → record_so_far jo
   | zero ↦ λ none. absurd (omega (arith, none))
   | suc k ↦ λ some. refl
 ]) h
-
-and-false : (x y : Bool) → y ≡ false → (x && y) ≡ false
-and-false true y f = f
-and-false false y f = refl
 
 module _ (r : Rules) (lawful : AreLawful r) (p : List ℕ) where
   -- what has ended keeps its record, and whether it was begun, with more answers
@@ -130,11 +124,11 @@ module _ (given : GivenView) (p : List ℕ) (a : Ask)
         | inl t ↦ ap a ((bytes_eq-Decides awaiting.path lacks.0).0 t) ∙ lacks.2
         | inr f ↦ absurd (fits.answered lacks.0 lacks.1 (λ same. let bad : false ≡ true = sym f ∙ (bytes_eq-Decides awaiting.path lacks.0).1 same in cc) lacks.2)
       ] in
-      let shows = waiting-shows given p a awaiting.path awaiting.held.value.check fits.waits a (λ x m other. refl) here in
+      let shows = waiting-shows given p awaiting.held.value.check a awaiting.path fits.waits a (λ x m other. refl) here in
       record {
         outcome_is = shown.0;
         deps_is = shown.1 ∙ sym shows.2 ∙ records;
-        begun_is = is ∙ sym (and-false (r.has_rule p) (r.begins p (outcomes_at_limit given)) (sym begins ∙ shows.1));
+        begun_is = is ∙ sym (ap (λ b. r.has_rule p && b) (sym begins ∙ shows.1) ∙ and_right (r.has_rule p) false refl);
       }
 
   decided-right : (outcome : Outcome) (shown : List Dep) (begun : Bool) → IsDecided given p outcome shown begun →

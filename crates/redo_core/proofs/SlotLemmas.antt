@@ -15,12 +15,10 @@ use Rattle.redo_build.proofs.DepthLemmas.{deeper}
 use Rattle.redo_build.proofs.TurnLemmas.{deps_at_turn-more, Extends-trans'}
 use Rattle.redo_build.proofs.StandingLemmas.{outcomes_of-deep}
 use Rattle.redo_build.specs.Schedule.{Entry, paths_of, entry_of, only, outcomes_of, State, put, sent_out, taken, happens}
-use Rattle.redo_rules.specs.Build.{GivenView}
-use Rattle.redo_core.specs.inside.Slots.{rounds_of, slot_entries, stage_outcome, is_stage_out, is_stage_ready, Fits, AllAnswered}
-use Rattle.redo_core.specs.inside.Slots.{decided_slots, is_stage_decided, entries_from, slot_entry, stage_deps, path_at, state_from, IsParked}
-use Rattle.redo_core.specs.declared.table.Slot.{Slot}
-use Rattle.redo_core.specs.declared.table.Stage.{Stage}
-use Rattle.redo_core.specs.declared.table.Stage.TheVariants.{Due, Checking, Waiting, Ready, Out, Decided}
+use Rattle.redo_core.specs.inside.Slots.{rounds_of, slot_entries, stage_outcome, is_stage_out, is_stage_ready, Fits}
+use Rattle.redo_core.specs.inside.Slots.{AllAnswered, decided_slots, is_stage_decided, entries_from, slot_entry}
+use Rattle.redo_core.specs.inside.Slots.{stage_deps, path_at, state_from, IsParked, GivenView, Slot, Stage, Due}
+use Rattle.redo_core.specs.inside.Slots.{Checking, Waiting, Ready, Out, Decided}
 use Rattle.redo_core.specs.declared.work.Work.{Work}
 use Rattle.redo_record.specs.Paths.{AreDistinct}
 use Rattle.redo_build.specs.Schedule.Event.{Take}
@@ -39,7 +37,7 @@ out_count-slots r a (p ∷ ps) (slot ∷ slots) h =
     elim (cases_Bool (is_stage_out slot.stage)) [ inl t ↦ rw t (ap suc rest) | inr f ↦ rw f rest ]
 out_count-slots r a _ _ h = absurd (omega arith)
 
-decided-outcome : (stage : Stage) → is_some (stage_outcome stage) ≡ is_stage_decided stage
+pub decided-outcome : (stage : Stage) → is_some (stage_outcome stage) ≡ is_stage_decided stage
 decided-outcome (Due held) = refl
 decided-outcome (Checking awaiting) = refl
 decided-outcome (Waiting begun) = refl

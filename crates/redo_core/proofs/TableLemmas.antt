@@ -1,8 +1,8 @@
 -- What changes of single slots keep.
 use Rattle.redo_names.proofs.PathLemmas.{among-told}
 use Rattle.redo_build.proofs.SoundLemmas.{only-same}
-use Rattle.std.proofs.Common.{slice_get, slice_set, ◌≡◌, ℕ, zero, suc, ◌⊎◌, inl, inr, List, []}
-use Rattle.std.proofs.Common.{◌∷◌, Some, None, refl, sym, ap, subst, ◌∙◌, arith, bytes_eq}
+use Rattle.std.proofs.Common.{slice_get, slice_set, ◌≡◌, ℕ, suc, inl, inr, List}
+use Rattle.std.proofs.Common.{◌∷◌, Some, None, refl, sym, ap, subst, ◌∙◌, bytes_eq}
 use Rattle.std.proofs.lemmas.Bool.{cases_Bool, both_ways}
 use Rattle.redo_record.specs.Paths.{IsAmong, AreDistinct, is_among}
 use Rattle.redo_build.specs.Rules.{Ask, Rules, AreLawful, Extends, operands}
@@ -11,29 +11,16 @@ use Rattle.redo_record.specs.declared.deps.Dep.{Dep}
 use Rattle.redo_build.specs.Outcomes.{outcome_at}
 use Rattle.redo_build.specs.Schedule.{only, outcome_of, outcomes_of}
 use Rattle.redo_rules.proofs.Public.{lawful_for}
-use Rattle.redo_rules.specs.Build.{GivenView, rules_for}
-use Rattle.redo_table.proofs.TargetLemmas.{get-same}
-use Rattle.redo_core.specs.inside.Slots.{entries_from, slot_entry, stage_outcome, path_at}
-use Rattle.redo_core.specs.inside.Slots.{Fits, AllAnswered, AllFit}
+use Rattle.redo_table.proofs.TargetLemmas.{get-same, set-cases}
+use Rattle.redo_core.specs.inside.Slots.{entries_from, slot_entry, stage_outcome, path_at, Fits, AllAnswered, AllFit}
+use Rattle.redo_core.specs.inside.Slots.{GivenView, rules_for, Slot, Stage, Due, Checking, Waiting, Ready, Out}
 use Rattle.redo_core.specs.inside.Works.{all_asked}
 use Rattle.redo_core.specs.inside.Checking.{TellsAlike}
-use Rattle.redo_core.specs.declared.table.Slot.{Slot}
-use Rattle.redo_core.specs.declared.table.Stage.{Stage}
-use Rattle.redo_core.specs.declared.table.Stage.TheVariants.{Due, Checking, Waiting, Ready, Out}
 use Rattle.redo_build.proofs.DepthLemmas.{cases_Option, operand-target}
 use Rattle.redo_core.proofs.SlotLemmas.{entry_of-slots, slot_entries-set}
 use Rattle.std.proofs.lemmas.Slice.Eq.{bytes_eq-Decides}
 use Rattle.redo_core.proofs.CheckingLemmas.{due-moves, waiting-moves}
-
-pub get-set_cases : (xs : List Slot) (at i : ℕ) (new found : Slot) → slice_get (slice_set xs at new) i ≡ Some found →
-    ((i ≡ at) × (new ≡ found)) ⊎ ((i ≡ at → ⊥) × (slice_get xs i ≡ Some found))
-get-set_cases [] at i new found h = cc
-get-set_cases (x ∷ xs) zero zero new found h = inl (refl, (cc))
-get-set_cases (x ∷ xs) (suc at) (suc i) new found h = elim (get-set_cases xs at i new found h) [
-  | inl here ↦ inl (ap suc here.0, here.1)
-  | inr old ↦ inr ((λ e. old.0 (let f : i ≡ at = omega arith in f)), old.1)
-]
-get-set_cases (x ∷ xs) _ _ new found h = inr ((λ e. absurd (omega arith)), h)
+use Rattle.redo_core.proofs.NumberLemmas.{same-some}
 
 -- with more answers those to these entries stay as they are
 pub answered-alike : (r : Rules) (lawful : AreLawful r) (a b : Ask) (ds : List Dep) → Extends r a b → AllAnswered r a ds → TellsAlike r ds a b
@@ -54,7 +41,7 @@ Fits-more given a b p turn (Due held) more h =
     let alike = answered-alike r lawful a b held.value.check.asked more h.answered in
     record {
       is_held = h.is_held;
-      is_due = due-moves given p a b held.value.check h.is_due alike;
+      is_due = due-moves given p held.value.check a b h.is_due alike;
       answered = answered-more r lawful a b held.value.check.asked more h.answered;
       exact = λ q. h.exact q ∙ only-same (operands r held.value.check.asked) a b alike q;
     }
@@ -68,7 +55,7 @@ Fits-more given a b p turn (Checking awaiting) more h =
     ] in
     record {
       is_held = h.is_held;
-      waits = waiting-moves given p a b awaiting.path check h.waits (λ x m other. alike x m (λ e. other (sym e)));
+      waits = waiting-moves given p check a b awaiting.path h.waits (λ x m other. alike x m (λ e. other (sym e)));
       answered = λ q m other none. h.answered q m other (alike q m other ∙ none);
       exact = λ q other. h.exact q other ∙ elim (cases_Bool (is_among (operands r check.asked) q)) as
           (λ _. only (operands r check.asked) a q ≡ only (operands r check.asked) b q) [
@@ -136,11 +123,11 @@ module _ (r : Rules) (lawful : AreLawful r) (n : ℕ) (ps : List (List ℕ)) (sl
       AllFit r n given ps slots →
       Fits r (outcomes_of (entries_from r n ps (slice_set slots at new))) given (path_at ps at) new.turn new.stage →
       AllFit r n given ps (slice_set slots at new)
-  fits-set given same more fits fit k x g = elim (get-set_cases slots at k new x g) [
+  fits-set given same more fits fit k x g = elim (set-cases slots at k old new x there g) [
     | inl here ↦
         let P : Slot → Type 0 = λ y. Fits r (outcomes_of (entries_from r n ps (slice_set slots at new))) given (path_at ps k) y.turn y.stage in
         let Q : ℕ → Type 0 = λ j. Fits r (outcomes_of (entries_from r n ps (slice_set slots at new))) given (path_at ps j) new.turn new.stage in
-        subst P here.1 (subst Q (sym here.0) fit)
+        subst P here.1 (subst Q here.0 fit)
     | inr before ↦
         let M : Rules → Type 0 = λ x. (a b : Ask) (q : List ℕ) (turn : ℕ) (stage : Stage) → Extends x a b → Fits x a given q turn stage → Fits x b given q turn stage in
         subst M (sym same) (Fits-more given) (outcomes_of (entries_from r n ps slots)) (outcomes_of (entries_from r n ps (slice_set slots at new))) (path_at ps k) x.turn x.stage more
@@ -157,6 +144,5 @@ pub put-again : (slots : List Slot) (at : ℕ) (slot gone found : Slot) → slic
     slice_get (slice_set slots at gone) at ≡ Some found → (stage : Stage) →
     slice_set (slice_set slots at gone) at (record found { stage = stage }) ≡ slice_set slots at (record slot { stage = stage })
 put-again slots at slot gone found there is again stage =
-    let both : Some gone ≡ Some found = sym (get-same slots at slot gone there) ∙ again in
-    let same : found ≡ gone = cc in
+    let same : found ≡ gone = same-some _ _ _ again (get-same slots at slot gone there) in
     set-twice slots at gone (record found { stage = stage }) ∙ ap (λ (y : Slot). slice_set slots at (record y { stage = stage })) (same ∙ is)

@@ -2,23 +2,21 @@
 use Rattle.std.proofs.Common.{slice_get, slice_set, ◌≡◌, ℕ, zero, suc, true, false}
 use Rattle.std.proofs.Common.{◌⊎◌, inl, inr, List, ◌∷◌, length-set, Global}
 use Rattle.std.proofs.Common.{Some, None, refl, sym, ap, subst, ◌∙◌, arith}
-use Rattle.std.specs.Prelude.{is_none, Box}
+use Rattle.std.specs.Prelude.{is_none, is_some, Box}
+use Rattle.std.proofs.lemmas.Bool.{both_ways}
 use Rattle.redo_record.specs.Paths.{IsAmong}
 use Rattle.redo_build.specs.Rules.{Ask, Rules, AreLawful, Extends, operands}
 use Rattle.redo_build.specs.Outcomes.{outcome_at}
 use Rattle.redo_build.specs.Schedule.{Entry, known_to, only, outcome_of, outcomes_of}
-use Rattle.redo_rules.specs.Build.{GivenView, rules_for}
 use Rattle.redo_rules.proofs.Public.{lawful_for}
 use Rattle.redo_table.specs.Schedule.{StageView}
-use Rattle.redo_core.specs.inside.Slots.{outcomes_at_limit, rounds_of, table_entries, entries_from, slot_entries, slot_entry, stage_deps}
-use Rattle.redo_core.specs.inside.Slots.{stage_outcome, path_at, is_stage_decided, Agrees, Fits, AllAnswered, AreNumbers}
-use Rattle.redo_core.specs.inside.Slots.{IsDecidedNumber, IsTable, IsWaitingWith, IsFed, IsStandingTable, IsDecidedSlot}
+use Rattle.redo_core.specs.inside.Slots.{outcomes_at_limit, rounds_of, table_entries, entries_from, slot_entries}
+use Rattle.redo_core.specs.inside.Slots.{slot_entry, stage_deps, stage_outcome, path_at, is_stage_decided, Agrees}
+use Rattle.redo_core.specs.inside.Slots.{Fits, AllAnswered, AreNumbers, IsDecidedNumber, IsTable, IsWaitingWith}
+use Rattle.redo_core.specs.inside.Slots.{IsFed, IsStandingTable, IsDecidedSlot, GivenView, rules_for, Slot, Table}
+use Rattle.redo_core.specs.inside.Slots.{Stage, Waiting, Decided}
 use Rattle.redo_core.specs.inside.Works.{all_asked, job_deps, told_in, waited_by}
 use Rattle.redo_core.specs.declared.work.Begun.{Begun}
-use Rattle.redo_core.specs.declared.table.Slot.{Slot}
-use Rattle.redo_core.specs.declared.table.Table.{Table}
-use Rattle.redo_core.specs.declared.table.Stage.{Stage}
-use Rattle.redo_core.specs.declared.table.Stage.TheVariants.{Due, Checking, Waiting, Ready, Out, Decided}
 use Rattle.redo_build.proofs.QueueLemmas.{filter-keeps}
 use Rattle.redo_build.proofs.HandoverLemmas.{taken-work, taken-deep}
 use Rattle.redo_build.specs.inside.Turns.{IsWork}
@@ -31,20 +29,12 @@ use Rattle.redo_core.proofs.AllAskedLemmas.{asked-cases, asked-second, first-ali
 use Rattle.redo_core.proofs.TableLemmas.{fits-set}
 use Rattle.redo_core.proofs.JobLemmas.{asked_of_job, asked_by_job}
 use Rattle.redo_core.proofs.EntryLemmas.{entry-there, keys-distinct, path-there, rounds-few}
-use Rattle.redo_core.proofs.SlotLemmas.{entry_of-slots}
+use Rattle.redo_core.proofs.SlotLemmas.{decided-outcome, entry_of-slots}
 use Rattle.redo_record.specs.declared.deps.Dep.{Dep}
 
 pub open-outcome : (stage : Stage) → is_stage_decided stage ≡ false → stage_outcome stage ≡ None
 open-outcome (Decided f) h = cc
 open-outcome _ h = refl
-
-decided-outcome : (stage : Stage) → is_stage_decided stage ≡ true → stage_outcome stage ≡ None → ⊥
-decided-outcome (Due d) h n = cc
-decided-outcome (Checking c) h n = cc
-decided-outcome (Waiting p) h n = cc
-decided-outcome (Ready w) h n = cc
-decided-outcome Out h n = cc
-decided-outcome (Decided f) h n = cc
 
 slot_entries-same : (r : Rules) (a : Ask) (ps : List (List ℕ)) (slots : List Slot) (i : ℕ) (p : List ℕ) (old new : Slot) →
     slice_get ps i ≡ Some p → slice_get slots i ≡ Some old → slot_entry r a p new ≡ slot_entry r a p old →
@@ -130,7 +120,7 @@ module _ (given : GivenView) (t : Table) (stages : List StageView) (table : IsTa
   pub decided-known : (q : List ℕ) → IsDecidedSlot t q → outcomes_of (table_entries given t) q ≡ None → ⊥
   decided-known q d none =
       let here = ap outcome_of (entry_of-slots r (outcomes_at_limit given) t.targets t.slots.items d.at q d.slot (keys-distinct given t stages table standing.0 standing.1) d.path d.there) in
-      decided-outcome d.slot.stage d.decided (sym here ∙ none)
+      both_ways _ (ap is_some (sym here ∙ none)) (decided-outcome d.slot.stage ∙ d.decided)
 
   -- a parked job, where all that it waits for is decided
   module _ (at : ℕ) (slot : Slot) (begun : Box Begun Global) (there : slice_get t.slots.items at ≡ Some slot) (is : slot.stage ≡ Waiting begun) where

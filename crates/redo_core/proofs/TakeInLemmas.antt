@@ -21,28 +21,24 @@ use Rattle.redo_build.specs.Schedule.Event.{Hand_in}
 use Rattle.redo_build.specs.Schedule.Phase.{Script}
 use Rattle.redo_build.specs.inside.Standing.{decided_count, rounds, AreStanding}
 use Rattle.redo_build.specs.inside.Turns.{CameTo, IsBegunAt, begins_at, deps_at_turn}
-use Rattle.redo_rules.specs.Build.{GivenView, rules_for, sources_for}
 use Rattle.redo_rules.proofs.Public.{lawful_for}
 use Rattle.redo_core.specs.Views.{FactView}
 use Rattle.redo_core.specs.inside.Works.{all_asked, job_deps, told_in, waited_by, IsStopped}
 use Rattle.redo_core.specs.inside.Checking.{IsBegunBehind}
 use Rattle.redo_core.specs.inside.Ends.{end_progress}
-use Rattle.redo_core.specs.inside.Slots.{outcomes_at_limit, rounds_of, table_entries, table_state, slot_entry, stage_deps, stage_outcome}
-use Rattle.redo_core.specs.inside.Slots.{is_stage_out, path_at, AreNumbers, IsWaitingWith}
+use Rattle.redo_core.specs.inside.Slots.{outcomes_at_limit, rounds_of, table_entries, table_state, slot_entry}
+use Rattle.redo_core.specs.inside.Slots.{stage_deps, stage_outcome, is_stage_out, path_at, AreNumbers, IsWaitingWith}
 use Rattle.redo_core.specs.inside.Slots.{AreEnteredInto, IsParkedAt, MayConclude, IsConcludedAt, concluded_entry}
-use Rattle.redo_core.specs.inside.Slots.{IsOutThere, MayTakeIn, IsPutBackThere, state_after}
-use Rattle.redo_core.specs.inside.Slots.{Agrees, AreSeen, IsSettled, IsStandingTable, IsTableOf}
+use Rattle.redo_core.specs.inside.Slots.{IsOutThere, MayTakeIn, IsPutBackThere, state_after, Agrees, AreSeen}
+use Rattle.redo_core.specs.inside.Slots.{IsSettled, IsStandingTable, IsTableOf, GivenView, rules_for, sources_for}
+use Rattle.redo_core.specs.inside.Slots.{Slot, Stage, Waiting, Table}
 use Rattle.redo_table.specs.Schedule.{IsOpen, ScheduleView}
 use Rattle.redo_table.specs.Schedule.StageView.{InHand as AtHand, Waiting as AtWaiting}
 use Rattle.redo_core.proofs.AgreeLemmas.{agreed-stage}
-use Rattle.redo_core.proofs.NumberLemmas.{numbers-number}
+use Rattle.redo_core.proofs.NumberLemmas.{numbers-number, same-some}
 use Rattle.std.specs.Prelude.{Box, is_none}
 use Rattle.std.specs.declared.vec.Vec.{Vec}
 use Rattle.redo_core.specs.declared.work.Begun.{Begun}
-use Rattle.redo_core.specs.declared.table.Slot.{Slot}
-use Rattle.redo_core.specs.declared.table.Stage.{Stage}
-use Rattle.redo_core.specs.declared.table.Stage.TheVariants.{Waiting}
-use Rattle.redo_core.specs.declared.table.Table.{Table}
 use Rattle.redo_core.specs.declared.work.End.{End}
 use Rattle.redo_core.specs.declared.work.End.TheVariants.{Ended, Stopped}
 use Rattle.redo_build.proofs.DepthLemmas.{cases_Option, ended_stays, operand-target, deeper}
@@ -122,8 +118,7 @@ module _ (given : GivenView) (t : Table) (at : ℕ) (end : End) (may : MayTakeIn
       outcomes_of (table_entries given t) q ≡ None → ⊥
   e-fed q m none =
       let fed = sound.queued.out_fed target e entry-at e-out in
-      let both : Some fed.0 ≡ Some e = sym fed.1 ∙ entry-at in
-      let same : fed.0 ≡ e = cc in
+      let same : fed.0 ≡ e = same-some _ _ _ fed.1 entry-at in
       let P : Entry → Type 0 = λ x. IsAmong (operands r x.deps) q in
       fed.3 q (subst P (sym same) m) none
 

@@ -1,11 +1,10 @@
 -- What `take` finds on a board.
-use Rattle.std.proofs.Common.{Bool, true, false, not, suc, map, Vec, Global, length-set, ◌≡◌, ℕ, ◌<◌}
+use Rattle.std.proofs.Common.{Bool, true, false, not, map, Vec, Global, length-set, ◌≡◌, ℕ, ◌<◌}
 use Rattle.std.proofs.Common.{◌≤◌, true, false, cond, inl, inr, List, [], ◌∷◌, length, Option, Some, None}
 use Rattle.std.proofs.Common.{is_some, slice_get, slice_set, remove, refl, sym, ap, subst, ◌∙◌, arith}
 use Rattle.redo_names.proofs.PathLemmas.{place-among}
 use Rattle.redo_build.specs.Rules.{Rules, operands, AreLawful}
 use Rattle.redo_record.specs.Paths.{AreDistinct}
-use Rattle.redo_rules.specs.Build.{rules_for}
 use Rattle.redo_rules.proofs.Public.{lawful_for}
 use Rattle.redo_table.specs.Schedule.{StageView, ScheduleView, EachLacks, IsQueue, stage_at, times, with_stage}
 use Rattle.redo_table.specs.Schedule.StageView.{Due as AtDue, Ready as AtReady, Out as AtOut, InHand as AtHand}
@@ -17,16 +16,14 @@ use Rattle.redo_build.proofs.ReachedLemmas.{reached-more}
 use Rattle.redo_build.specs.Schedule.{IsReached, Entry, State, entry_of, happens}
 use Rattle.redo_build.specs.Schedule.{outcomes_of, only, IsQuiet}
 use Rattle.redo_build.specs.Schedule.Event.{Take}
-use Rattle.redo_core.specs.inside.Slots.{outcomes_at_limit, rounds_of, stage_outcome, rules_inside, state_of, state_from, slot_entry, path_at}
-use Rattle.redo_core.specs.inside.Slots.{AllAnswered, IsKept, IsBoard, IsParked, IsResting}
-use Rattle.redo_core.specs.inside.Slots.{IsTable, stage_deps}
+use Rattle.redo_core.specs.inside.Slots.{outcomes_at_limit, rounds_of, stage_outcome, rules_inside, state_of}
+use Rattle.redo_core.specs.inside.Slots.{state_from, slot_entry, path_at, AllAnswered, IsKept, IsBoard, IsParked}
+use Rattle.redo_core.specs.inside.Slots.{IsResting, IsTable, stage_deps, rules_for, Slot, Ready, Out}
 use Rattle.redo_build.specs.Outcomes.{outcome_at}
 use Rattle.redo_core.proofs.TableLemmas.{fits-set, outcomes-more}
 use Rattle.redo_core.specs.Views.{jobs_out, ready_count, rules_on, told_by, BoardView, WorkView, IsWorkTaken}
 use Rattle.redo_core.specs.inside.Works.{HoldsOutcomes}
 use Rattle.redo_core.specs.declared.board.Board.TheInside.{Inside}
-use Rattle.redo_core.specs.declared.table.Slot.{Slot}
-use Rattle.redo_core.specs.declared.table.Stage.TheVariants.{Ready, Out}
 use Rattle.redo_core.specs.declared.work.Work.{Work}
 use Rattle.redo_core.proofs.HoldingLemmas.{same-answers}
 use Rattle.redo_core.proofs.LookLemmas.{none_due}
@@ -37,6 +34,7 @@ use Rattle.redo_build.specs.Theorems.{IsPartOfBuild, ShowsBuild}
 use Rattle.redo_build.proofs.TurnBoundLemmas.{turn-below}
 use Rattle.redo_build.proofs.SoundLemmas.{IsSound}
 use Rattle.redo_core.proofs.SlotLemmas.{slice_get-map, ready-job, entry}
+use Rattle.std.proofs.lemmas.List.{length-map}
 use Rattle.std.proofs.lemmas.Option.{slice_get_within}
 use Rattle.redo_core.proofs.SlotLemmas.{length-slots, state_taken}
 
@@ -118,9 +116,9 @@ pub running : {A : Type 0} (stopped : Option A) (n which : ℕ) → which < cond
 running None n which h = refl
 running (Some x) n which h = absurd (omega arith)
 
-pub length-map : (f : ℕ → List ℕ) (xs : List ℕ) → length (map f xs) ≡ length xs
-length-map f [] = refl
-length-map f (x ∷ xs) = ap suc (length-map f xs)
+pub below-length : {A : Type 0} (stopped : Option A) (n which : ℕ) → which < cond (is_some stopped) 0 n → which < n
+below-length None n which h = h
+below-length (Some stop) n which h = absurd (omega (arith, h))
 
 module _ (b : Inside) (kept : IsKept b) (which at : ℕ) (slot : Slot)
     (first : slice_get b.table.schedule.ready which ≡ Some at) (staged : stage_at b.table.schedule at ≡ Some AtReady)
@@ -170,7 +168,7 @@ module _ (b : Inside) (kept : IsKept b) (which at : ℕ) (slot : Slot)
       ap (state_from r b.build.limits.targets b.table.targets (slice_set b.table.slots.items at (record slot { stage = Out }))) is_ready ∙
       taken_state b kept which at slot first staged there in
       let more = reached-more r b.build.request (state_of b) (Take which) kept.at_rest.reached
-      (omega (arith, below, length-map (path_at b.table.targets) b.table.schedule.ready)) in
+      (omega (arith, below, length-map b.table.schedule.ready (path_at b.table.targets))) in
       let P : State → Type 0 = IsReached r b.build.request in
       let len = length-set b.table.slots.items at new in
       let open_stage : stage_outcome slot.stage ≡ None = rw job.1 refl in
@@ -203,11 +201,8 @@ pub staged-below : (b : Inside) → IsKept b → (at : ℕ) → stage_at b.table
 staged-below b kept at staged = omega (arith, slice_get_within b.table.schedule.stages at AtReady staged, kept.at_rest.table.agreed.one_each)
 
 pub below_items : (b : Inside) (which : ℕ) → which < cond (is_some b.stopped) 0 (length (map (path_at b.table.targets) b.table.schedule.ready)) → which < length b.table.schedule.ready
-below_items b which h = below_count b.stopped h
-  where
-    below_count : {A : Type 0} (o : Option A) → which < cond (is_some o) 0 (length (map (path_at b.table.targets) b.table.schedule.ready)) → which < length b.table.schedule.ready
-    below_count None k = omega (arith, k, length-map (path_at b.table.targets) b.table.schedule.ready)
-    below_count (Some x) k = absurd (omega arith)
+below_items b which h =
+    omega (arith, below-length b.stopped (length (map (path_at b.table.targets) b.table.schedule.ready)) which h, length-map b.table.schedule.ready (path_at b.table.targets))
 
 -- the turn of what is taken is below the limit
 pub turn_small : (b : Inside) (kept : IsKept b) (which at : ℕ) (slot : Slot) (first : slice_get b.table.schedule.ready which ≡ Some at)

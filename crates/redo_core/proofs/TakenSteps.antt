@@ -1,6 +1,6 @@
 -- What a board has taken, one event further, and in the end.
 use Rattle.std.proofs.Common.{◌≡◌, ℕ, ◌<◌, cond, is_some, length, List, [], ◌∷◌, ◌++◌, Option, Some, None}
-use Rattle.std.proofs.Common.{true, option_and_then, append-nil, refl, sym, ap, subst, ◌∙◌, arith}
+use Rattle.std.proofs.Common.{true, option_and_then, append-nil, refl, sym, ap, subst, ◌∙◌}
 use Rattle.std.specs.Prelude.{IsNone}
 use Rattle.redo_names.proofs.PathLemmas.{place-among}
 use Rattle.redo_record.specs.Paths.{IsAmong}
@@ -26,11 +26,7 @@ use Rattle.redo_build.proofs.SoundLemmas.{IsSound, opening-sound}
 use Rattle.redo_build.proofs.StillLemmas.{AllOpen-behind, run-behind, takes-looks}
 use Rattle.redo_build.proofs.LookedLemmas.{shown-none_due}
 use Rattle.redo_build.proofs.ReachedLemmas.{reached-more, reached-sound, takes-append}
-use Rattle.redo_core.proofs.TakeLemmas.{no_paths}
-
-below-length : {A : Type 0} (stopped : Option A) (n which : ℕ) → which < cond (is_some stopped) 0 n → which < n
-below-length None n which h = h
-below-length (Some stop) n which h = absurd (omega (arith, h))
+use Rattle.redo_core.proofs.TakeLemmas.{no_paths, below-length}
 
 -- one more open event adds what it takes
 pub taken-more : (b : BoardView) (taken more : List ((List ℕ) × ℕ)) (event : Event) → HasTaken b taken → IsOpen (rules_on b) b.state event →

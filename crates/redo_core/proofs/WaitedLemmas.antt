@@ -6,16 +6,12 @@ use Rattle.redo_names.proofs.PathLemmas.{place-among}
 use Rattle.redo_record.specs.Paths.{IsAmong, AreDistinct}
 use Rattle.redo_build.specs.Rules.{Ask, Rules, operands}
 use Rattle.redo_build.specs.Schedule.{outcome_of, outcomes_of}
-use Rattle.redo_rules.specs.Build.{GivenView, rules_for}
 use Rattle.redo_table.specs.Schedule.{StageView, EachLacks}
 use Rattle.redo_table.specs.Schedule.StageView.{Waiting as AtWaiting, Decided as AtDecided}
-use Rattle.redo_core.specs.inside.Slots.{outcomes_at_limit, Agrees, Fits, IsTable, IsCheckingWith, IsWaitingWith, is_stage_decided, is_stage_waiting}
-use Rattle.redo_core.specs.inside.Slots.{path_at, rounds_of, stage_deps, table_entries}
+use Rattle.redo_core.specs.inside.Slots.{outcomes_at_limit, Agrees, Fits, IsTable, IsCheckingWith, IsWaitingWith}
+use Rattle.redo_core.specs.inside.Slots.{is_stage_decided, is_stage_waiting, path_at, rounds_of, stage_deps}
+use Rattle.redo_core.specs.inside.Slots.{table_entries, GivenView, rules_for, Slot, Table, Stage, Checking, Waiting}
 use Rattle.redo_core.specs.inside.Works.{waited_by}
-use Rattle.redo_core.specs.declared.table.Slot.{Slot}
-use Rattle.redo_core.specs.declared.table.Table.{Table}
-use Rattle.redo_core.specs.declared.table.Stage.{Stage}
-use Rattle.redo_core.specs.declared.table.Stage.TheVariants.{Checking, Waiting}
 use Rattle.redo_core.proofs.AgreeLemmas.{agreed-stage, decided-agrees}
 use Rattle.redo_core.proofs.CheckingLemmas.{waiting-asked}
 use Rattle.redo_core.proofs.NumberLemmas.{numbers-number}
@@ -61,7 +57,7 @@ module _ (given : GivenView) (t : Table) (stages : List StageView) (table : IsTa
         let same = alone-is agrees.0 lack.i lack.k lack.there in
         let U : ℕ → Type 0 = λ n. slice_get stages n ≡ Some AtDecided → ⊥ in (
           awaiting.path,
-          waiting-asked given p a awaiting.path awaiting.held.value.check fits.waits,
+          waiting-asked given p awaiting.held.value.check a awaiting.path fits.waits,
           undecided agrees.0 awaiting.path agrees.2 (subst U same lack.undecided),
         )
     by-stage (Waiting begun) is waits =

@@ -1,6 +1,6 @@
 -- How a board keeps its entries.
 use Rattle.std.specs.Prelude.{◌≡◌, ◌⊎◌, ℕ, ◌+◌, ◌<◌, ◌≤◌, Bool, true, false, not, List, [], ◌∷◌, ◌++◌, Option, Some}
-use Rattle.std.specs.Prelude.{None, IsNone, if◌then◌else◌, map, length, filter, slice_get, slice_set}
+use Rattle.std.specs.Prelude.{None, IsNone, map, length, filter, slice_get, slice_set}
 use Rattle.std.specs.Prelude.{count_by, unwrap_or, Box}
 use Rattle.std.specs.declared.alloc.Global.{Global}
 use Rattle.redo_table.specs.Schedule.{StageView, ScheduleView, with_stage, with_target, stage_at, times, NoneDue, IsOpen}
@@ -8,7 +8,7 @@ use Rattle.redo_table.specs.Schedule.{IsFirstDue, IsAnswered, EachLacks, IsQueue
 use Rattle.redo_table.specs.Schedule.StageView.{Due as AtDue, Ready as AtReady, Out as AtOut, InHand as AtHand}
 use Rattle.redo_table.specs.Schedule.StageView.{Waiting as AtWaiting, Decided as AtDecided}
 use Rattle.redo_build.specs.Rules.{Ask, Rules, Extends, operands}
-use Rattle.redo_rules.specs.Build.{GivenView, rules_for, sources_for}
+pub use Rattle.redo_rules.specs.Build.{GivenView, rules_for, sources_for}
 use Rattle.redo_core.specs.inside.Works.{IsUnreadWork, all_asked, found_as, told_in, AddsFact, IsJobOf, GoesOn}
 use Rattle.redo_core.specs.inside.Works.{waited_by}
 use Rattle.redo_core.specs.declared.facts.Facts.{Facts}
@@ -23,20 +23,20 @@ use Rattle.redo_build.specs.Looking.{looked, looked_once}
 use Rattle.redo_which.specs.Rule.{found_of}
 use Rattle.redo_core.specs.inside.Checking.{IsBegunBehind, IsDueCheck, IsWaitingCheck}
 use Rattle.redo_core.specs.declared.check.Check.{Check}
-use Rattle.redo_core.specs.declared.table.Awaiting.{Awaiting}
-use Rattle.redo_core.specs.declared.table.InCheck.{InCheck}
+pub use Rattle.redo_core.specs.declared.table.Awaiting.{Awaiting}
+pub use Rattle.redo_core.specs.declared.table.InCheck.{InCheck}
 use Rattle.redo_build.specs.Schedule.{Phase}
 use Rattle.redo_core.specs.inside.Ends.{IsEndAt}
 use Rattle.redo_core.specs.declared.work.End.{End}
-use Rattle.redo_core.specs.declared.table.Table.{Table}
+pub use Rattle.redo_core.specs.declared.table.Table.{Table}
 use Rattle.redo_core.specs.declared.work.Work.{Work}
 use Rattle.redo_core.specs.declared.work.Begun.{Begun}
 use Rattle.redo_build.specs.inside.Standing.{AreStanding}
 use Rattle.redo_build.specs.inside.Turns.{deps_at_turn, IsWork}
 use Rattle.redo_core.specs.Views.{WorkView, FactView}
-use Rattle.redo_core.specs.declared.table.Slot.{Slot}
-use Rattle.redo_core.specs.declared.table.Stage.{Stage}
-use Rattle.redo_core.specs.declared.table.Stage.TheVariants.{Due, Checking, Waiting, Ready, Out, Decided}
+pub use Rattle.redo_core.specs.declared.table.Slot.{Slot}
+pub use Rattle.redo_core.specs.declared.table.Stage.{Stage}
+pub use Rattle.redo_core.specs.declared.table.Stage.TheVariants.{Due, Checking, Waiting, Ready, Out, Decided}
 use Rattle.redo_core.specs.declared.board.Board.TheInside.{Inside}
 use Rattle.redo_record.specs.declared.deps.Dep.{Dep}
 use Rattle.redo_record.specs.declared.outcome.Outcome.{Outcome}
@@ -314,9 +314,12 @@ pub record IsMadeReadyAt (given : GivenView) (t u : Table) (at : ℕ) : Type 0 w
   pub slots : u.slots.items ≡ slice_set t.slots.items at (record old { stage = Ready work })
   pub schedule : u.schedule ≡ with_stage t.schedule at AtReady
 
--- where the schedule has a target that goes on
-abbrev pub next_stage : Stage → StageView
-next_stage stage = if is_stage_due stage then AtDue else AtReady
+-- where the schedule has a target that is due, ready or decided
+abbrev pub in_schedule : Stage → StageView
+in_schedule (Due held) = AtDue
+in_schedule (Ready work) = AtReady
+in_schedule (Decided fact) = AtDecided
+in_schedule _ = AtHand
 
 -- the check of a slot has the answer that it waited for: it can go on, or its target is ready
 pub record IsResumedAt (given : GivenView) (t u : Table) (at : ℕ) : Type 0 where
@@ -331,7 +334,7 @@ pub record IsResumedAt (given : GivenView) (t u : Table) (at : ℕ) : Type 0 whe
       awaiting.held.value.check.asked
   pub targets : u.targets ≡ t.targets
   pub slots : u.slots.items ≡ slice_set t.slots.items at (record old { stage = stage })
-  pub schedule : u.schedule ≡ with_stage t.schedule at (next_stage stage)
+  pub schedule : u.schedule ≡ with_stage t.schedule at (in_schedule stage)
 
 -- a check goes on or falls with the answer of a decided target
 pub record GoesOnWith (given : GivenView) (t : Table) (place : ℕ) (old new : Check) (stands : Bool) : Type 0 where
@@ -390,12 +393,20 @@ pub record IsAnsweredAt (given : GivenView) (t : Table) (at : ℕ) (on : List �
   pub answered : IsAnswered before.stages at on
   pub now : t.schedule ≡ with_stage before at AtHand
 
+-- what went on is due or ready
+abbrev pub is_going : StageView → Bool
+is_going AtDue = true
+is_going AtReady = true
+is_going _ = false
+
 -- the target in hand is due or ready now: the table shows the same entries
 pub record IsGoneOnAt (given : GivenView) (t u : Table) (at : ℕ) : Type 0 where
   pub table : IsTableOf given u
   pub entries : table_entries given u ≡ table_entries given t
   pub targets : u.targets ≡ t.targets
-  pub schedule : (u.schedule ≡ with_stage t.schedule at AtDue) ⊎ (u.schedule ≡ with_stage t.schedule at AtReady)
+  pub stage : StageView
+  pub going : is_going stage ≡ true
+  pub schedule : u.schedule ≡ with_stage t.schedule at stage
 
 -- some targets went on: the table shows the same entries, and nothing more is in hand
 pub record IsSettling (given : GivenView) (t u : Table) : Type 0 where
@@ -428,12 +439,12 @@ IsFirstStage given p (Decided fact) =
     (((rules_for given).progress p nothing_known).outcome ≡ Some fact.value.outcome)
 IsFirstStage given p _ = ⊥
 
--- where the schedule has a path at first sight
-abbrev pub first_in_schedule : Stage → StageView
-first_in_schedule (Due held) = AtDue
-first_in_schedule (Ready work) = AtReady
-first_in_schedule (Decided fact) = AtDecided
-first_in_schedule _ = AtHand
+-- where the schedule has a path at first sight: it is due, ready or decided
+abbrev pub is_fresh : StageView → Bool
+is_fresh AtDue = true
+is_fresh AtReady = true
+is_fresh AtDecided = true
+is_fresh _ = false
 
 -- a new path has a slot behind the others
 pub record IsPushed (given : GivenView) (t u : Table) (p : List ℕ) : Type 0 where
@@ -443,7 +454,7 @@ pub record IsPushed (given : GivenView) (t u : Table) (p : List ℕ) : Type 0 wh
   pub turn : new.turn ≡ 0
   pub keys : u.targets ≡ t.targets ++ p ∷ []
   pub slots : u.slots.items ≡ t.slots.items ++ new ∷ []
-  pub schedule : u.schedule ≡ with_target t.schedule (first_in_schedule new.stage)
+  pub schedule : u.schedule ≡ with_target t.schedule (in_schedule new.stage)
 
 -- the table shows the entries with these paths entered
 pub record AreEnteredInto (given : GivenView) (t u : Table) (ps : List (List ℕ)) : Type 0 where
@@ -454,7 +465,7 @@ pub record AreEnteredInto (given : GivenView) (t u : Table) (ps : List (List ℕ
   pub slots_kept : (k : ℕ) (slot : Slot) → slice_get t.slots.items k ≡ Some slot → slice_get u.slots.items k ≡ Some slot
   pub stages_kept : (k : ℕ) (s : StageView) → stage_at t.schedule k ≡ Some s → stage_at u.schedule k ≡ Some s
   pub fresh : (k : ℕ) (s : StageView) → stage_at u.schedule k ≡ Some s →
-      (stage_at t.schedule k ≡ Some s) ⊎ ((s ≡ AtDue) ⊎ ((s ≡ AtReady) ⊎ (s ≡ AtDecided)))
+      (stage_at t.schedule k ≡ Some s) ⊎ (is_fresh s ≡ true)
 
 abbrev pub IsEnteredInto : GivenView → Table → Table → List ℕ → Type 0
 IsEnteredInto given t u p = AreEnteredInto given t u (p ∷ [])

@@ -2,11 +2,9 @@ use Rattle.std.proofs.Common.{◌≡◌, [], Option, sym, subst}
 use Rattle.std.specs.Prelude.{IfSome, IfNone}
 use Rattle.redo_build.specs.Rules.{Ask}
 use Rattle.redo_build.specs.Schedule.{nothing_known}
-use Rattle.redo_rules.specs.Build.{GivenView, rules_for}
 use Rattle.redo_core.specs.inside.Checking.{IsBegunBehind, IsDueCheck}
-use Rattle.redo_core.specs.inside.Slots.{IsDueWith}
+use Rattle.redo_core.specs.inside.Slots.{IsDueWith, GivenView, rules_for, InCheck}
 use Rattle.redo_core.specs.declared.check.Check.{Check}
-use Rattle.redo_core.specs.declared.table.InCheck.{InCheck}
 use Rattle.redo_core.proofs.FirstStageLemmas.{first-due, first-unread, ruled}
 use Rattle.redo_core.proofs.first.ruled.Goals as goal
 use Rattle.redo_core.proofs.first.ruled.Goals.{In_default}

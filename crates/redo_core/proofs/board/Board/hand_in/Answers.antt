@@ -1,10 +1,9 @@
 use Rattle.std.proofs.Common.{◌≡◌, ℕ, List, Option, Some, None, Err, MatchOption, refl}
 use Rattle.std.proofs.Common.{sym, ap, subst, ◌∙◌}
 use Rattle.redo_build.specs.Schedule.{IsOutAt}
-use Rattle.redo_rules.specs.Build.{GivenView}
 use Rattle.redo_core.specs.inside.Ends.{IsEndAt}
 use Rattle.redo_core.specs.Faults.{fault_of, Refused, RefusedRunning}
-use Rattle.redo_core.specs.inside.Slots.{IsKept, IsOutSlotAt, state_of}
+use Rattle.redo_core.specs.inside.Slots.{IsKept, IsOutSlotAt, state_of, GivenView}
 use Rattle.redo_core.specs.Views.{BoardView, PieceView, IsHandedIn}
 use Rattle.redo_core.specs.declared.board.Stop.{Stop}
 use Rattle.redo_core.specs.declared.board.Stop.TheVariants.{TooMany}

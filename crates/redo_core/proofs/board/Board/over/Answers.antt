@@ -1,7 +1,6 @@
 use Rattle.std.proofs.Common.{◌≡◌, ◌≤◌, ℕ, Err, None, length, refl, sym, ap, subst, ◌∙◌}
-use Rattle.redo_rules.specs.Build.{GivenView}
 use Rattle.redo_rules.specs.Results.{IsGiven}
-use Rattle.redo_core.specs.inside.Slots.{IsKept, state_of}
+use Rattle.redo_core.specs.inside.Slots.{IsKept, state_of, GivenView}
 use Rattle.redo_core.specs.declared.board.Board.TheInside.{Inside}
 use Rattle.redo_core.proofs.GivenLemmas.{given-of}
 use Rattle.redo_core.proofs.TakeLemmas.{part-inside, length-entries}

@@ -1,6 +1,5 @@
 use Rattle.std.proofs.Common.{ℕ, List, [], ◌∷◌, ◌++◌, Err, take, sym, ap, subst, ◌∙◌}
-use Rattle.redo_rules.specs.Build.{GivenView, rules_for}
-use Rattle.redo_core.specs.inside.Slots.{AreEnteredInto, AreNumbers, table_entries}
+use Rattle.redo_core.specs.inside.Slots.{AreEnteredInto, AreNumbers, table_entries, GivenView, rules_for}
 use Rattle.redo_table.proofs.TargetLemmas.{read-there}
 use Rattle.redo_core.proofs.EnterAllLemmas.{enter-more, path-take, too-many}
 use Rattle.redo_core.proofs.NumberLemmas.{numbers-kept, numbers-push}

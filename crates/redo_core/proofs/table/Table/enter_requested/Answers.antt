@@ -1,7 +1,6 @@
 use Rattle.std.proofs.Common.{◌≡◌, ℕ, List, [], ◌∷◌, ◌++◌, Err, take, not, sym, ap, subst, ◌∙◌, append-nil}
 use Rattle.std.proofs.Common.{true}
-use Rattle.redo_rules.specs.Build.{GivenView, rules_for}
-use Rattle.redo_core.specs.inside.Slots.{AreEnteredInto, table_entries, targets_in}
+use Rattle.redo_core.specs.inside.Slots.{AreEnteredInto, table_entries, targets_in, GivenView, rules_for}
 use Rattle.redo_table.proofs.TargetLemmas.{read-there}
 use Rattle.redo_core.proofs.EnterAllLemmas.{enter-more}
 use Rattle.redo_core.proofs.OpeningLemmas.{targets-more, one-target, no-target, too-many-requested}

@@ -1,6 +1,5 @@
 use Rattle.std.proofs.Common.{take}
-use Rattle.redo_rules.specs.Build.{rules_for}
-use Rattle.redo_core.specs.inside.Slots.{AreEnteredInto, targets_in}
+use Rattle.redo_core.specs.inside.Slots.{AreEnteredInto, targets_in, rules_for}
 use Rattle.redo_core.proofs.table.Table.enter_requested.Given as goal
 
 abbrev pub invariant-loop-path : goal.invariant-loop-path

@@ -4,14 +4,12 @@ use Rattle.std.specs.Arc.{arc_value}
 use Rattle.redo_record.specs.declared.deps.Dep.{Dep}
 use Rattle.redo_record.specs.declared.outcome.Outcome.{Outcome}
 use Rattle.redo_record.specs.declared.outcome.Outcome.TheVariants.{Built}
-use Rattle.redo_rules.specs.Build.{GivenView}
 use Rattle.redo_skip.specs.Checks.{shown}
 use Rattle.redo_tree.specs.Tree.{file_at}
 use Rattle.redo_core.specs.Views.{FactView}
 use Rattle.redo_core.specs.inside.Checking.{IsInCheck, entries_in}
 use Rattle.redo_core.specs.inside.Decided.{IsDecided}
-use Rattle.redo_core.specs.inside.Slots.{path_at}
-use Rattle.redo_core.specs.declared.table.InCheck.{InCheck}
+use Rattle.redo_core.specs.inside.Slots.{path_at, GivenView, InCheck}
 use Rattle.redo_core.proofs.LookSteps.{fits, look-key, look-targets}
 use Rattle.redo_core.proofs.LookedSteps.{kept-decided, kept-may, kept-put}
 use Rattle.redo_core.proofs.table.Table.keep.Goals as goal

@@ -2,10 +2,8 @@ use Rattle.std.proofs.Common.{◌<◌, length, Err, sym, ap, subst, ◌∙◌}
 use Rattle.redo_build.specs.Looking.{looked_once}
 use Rattle.redo_build.specs.Schedule.{State}
 use Rattle.redo_build.specs.Schedule.Phase.{Check}
-use Rattle.redo_rules.specs.Build.{GivenView, rules_for}
 use Rattle.redo_build.specs.Schedule.{IsReached}
-use Rattle.redo_core.specs.inside.Slots.{IsPutBackThere, MayLook, state_after}
-use Rattle.redo_core.specs.declared.table.InCheck.{InCheck}
+use Rattle.redo_core.specs.inside.Slots.{IsPutBackThere, MayLook, state_after, GivenView, rules_for, InCheck}
 use Rattle.redo_core.proofs.CheckingLemmas.{number-within}
 use Rattle.redo_core.proofs.EnqueueLemmas.{taken-in}
 use Rattle.redo_core.proofs.LookLemmas.{drawn-state, drawn-there}

@@ -4,12 +4,10 @@ use Rattle.std.specs.Arc.{arc_value}
 use Rattle.std.specs.Vec.{with_item}
 use Rattle.std.proofs.lemmas.Result.{on_ok_weaker}
 use Rattle.redo_record.specs.Entries.{with_all}
-use Rattle.redo_core.specs.inside.Slots.{IsFedAs, Gains}
+use Rattle.redo_core.specs.inside.Slots.{IsFedAs, Gains, Slot, Ready}
 use Rattle.redo_core.specs.inside.Works.{all_asked, job_deps}
 use Rattle.redo_core.specs.declared.work.Begun.{Begun}
 use Rattle.redo_core.specs.Views.{WorkView}
-use Rattle.redo_core.specs.declared.table.Slot.{Slot}
-use Rattle.redo_core.specs.declared.table.Stage.TheVariants.{Ready}
 use Rattle.std.proofs.lemmas.Option.{slice_get_within}
 use Rattle.redo_table.proofs.TargetLemmas.{read-there}
 use Rattle.redo_core.proofs.TableLemmas.{put-again}

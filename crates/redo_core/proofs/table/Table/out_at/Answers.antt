@@ -1,11 +1,10 @@
 use Rattle.std.proofs.Common.{◌≡◌, ◌<◌, ℕ, rules, length, slice_get, Some, true, sym, ap, subst, ◌∙◌, arith}
 use Rattle.redo_names.proofs.PathLemmas.{place-among}
-use Rattle.redo_core.specs.declared.table.Slot.{Slot}
 use Rattle.std.proofs.lemmas.Option.{slice_get_within}
 use Rattle.redo_table.proofs.TargetLemmas.{read-there}
 use Rattle.redo_core.proofs.NewlyReadyLemmas.{distinct-place}
 use Rattle.std.proofs.lemmas.Bool.{both_ways}
-use Rattle.redo_core.specs.inside.Slots.{is_stage_out}
+use Rattle.redo_core.specs.inside.Slots.{is_stage_out, Slot}
 use Rattle.redo_core.proofs.GainSteps.{out-stage}
 use Rattle.redo_core.proofs.table.Table.out_at.Goals as goal
 use Rattle.redo_core.proofs.table.Table.out_at.Goals.{else-is_out-via-then-is_out+else-slot-turn, else-is_out-via-else-is_out}

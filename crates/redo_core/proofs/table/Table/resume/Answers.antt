@@ -3,11 +3,8 @@ use Rattle.std.specs.Box.{with_value}
 use Rattle.std.specs.Vec.{with_item}
 use Rattle.std.proofs.lemmas.Result.{on_ok_weaker}
 use Rattle.redo_core.specs.Views.{WorkView}
-use Rattle.redo_core.specs.inside.Slots.{GainsOne, GoesOnWith, IsAnsweredAs, IsFallen, path_at}
-use Rattle.redo_core.specs.declared.table.InCheck.{InCheck}
-use Rattle.redo_core.specs.declared.table.Slot.{Slot}
-use Rattle.redo_core.specs.declared.table.Stage.TheVariants.{Due, Ready}
-use Rattle.redo_core.specs.declared.table.Table.{Table}
+use Rattle.redo_core.specs.inside.Slots.{GainsOne, GoesOnWith, IsAnsweredAs, IsFallen, path_at, InCheck, Slot, Due}
+use Rattle.redo_core.specs.inside.Slots.{Ready, Table}
 use Rattle.std.proofs.lemmas.Option.{slice_get_within}
 use Rattle.redo_table.proofs.TargetLemmas.{read-there}
 use Rattle.redo_core.proofs.ResumeSteps.{answer-there, answered-here, check-within, held-due, held-fallen, held-ready}

@@ -1,9 +1,8 @@
 use Rattle.std.proofs.Common.{◌≡◌, ◌<◌, ℕ, List, Err, length, refl, sym, ap, subst, ◌∙◌}
-use Rattle.redo_rules.specs.Build.{GivenView, rules_for}
 use Rattle.redo_core.specs.inside.Works.{waited_by}
 use Rattle.redo_core.specs.declared.work.End.TheVariants.{Stopped}
 use Rattle.redo_build.specs.Schedule.{entered}
-use Rattle.redo_core.specs.inside.Slots.{AreEnteredInto, AreNumbers, table_entries}
+use Rattle.redo_core.specs.inside.Slots.{AreEnteredInto, AreNumbers, table_entries, GivenView, rules_for}
 use Rattle.redo_core.proofs.TakeInLemmas.{after-length, are-seen, out-still, paths-waited, suspended-put, suspended-standing, suspended-table}
 use Rattle.redo_core.proofs.table.Table.suspend.Goals as goal
 use Rattle.redo_core.proofs.table.Table.suspend.Goals.{In_ok-operands}
