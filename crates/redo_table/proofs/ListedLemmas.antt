@@ -1,7 +1,7 @@
 -- The lists of a schedule, while one target changes its stage.
 use Rattle.std.proofs.Common.{◌≡◌, ◌⊎◌, inl, inr, ℕ, zero, suc, ◌+◌, ◌<◌, ◌≤◌, ◌^◌, Bool, true, false, cond, List, [], ◌∷◌, ◌++◌}
 use Rattle.std.proofs.Common.{Option, Some, None, length, slice_get, slice_set, refl, sym, ap, subst, ◌∙◌, arith, length-set, length-append, remove, ◌-◌, All, slice_index, ◌↔◌}
-use Rattle.std.proofs.lemmas.Bool.{cases_Bool}
+use Rattle.std.proofs.lemmas.Bool.{cases_Bool, cases_eq}
 use Rattle.redo_table.specs.Schedule.{ScheduleView, StageView, is_due, is_ready, is_out, times}
 use Rattle.redo_table.specs.Schedule.StageView.{Due, Ready, Out, InHand, Waiting}
 use Rattle.redo_table.specs.declared.schedule.Schedule.TheInside.{Inside}
@@ -17,7 +17,7 @@ use Rattle.std.specs.Prelude.{IsPermutation, IsSorted}
 use Rattle.std.specs.List.Sorted.{IsStrictlyIncreasing}
 use Rattle.std.proofs.lemmas.List.Sorted.{IsNonDecreasingBy-from_sort}
 use Rattle.redo_table.proofs.TargetLemmas.{index-there}
-use Rattle.redo_table.proofs.TargetLemmas.{get-same, get-other, cases_eq, count-set, count-push}
+use Rattle.redo_table.proofs.TargetLemmas.{get-same, get-other, count-set, count-push}
 
 pub ready-is : (s : StageView) → is_ready s ≡ true → s ≡ Ready
 ready-is Ready h = refl

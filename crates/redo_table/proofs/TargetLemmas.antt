@@ -1,6 +1,7 @@
 -- A list in which one item is another, and the stages of targets.
 use Rattle.std.proofs.Common.{◌≡◌, ◌⊎◌, inl, inr, ℕ, zero, suc, ◌+◌, ◌<◌, Bool, true, cond, List, [], ◌∷◌, ◌++◌}
 use Rattle.std.proofs.Common.{Some, length, slice_get, slice_set, slice_index_or, refl, sym, ap, subst, ◌∙◌, arith, count_by}
+use Rattle.std.proofs.lemmas.Bool.{cases_eq}
 use Rattle.std.proofs.lemmas.List.Sums.{sum_by-cons, sum_by-append}
 use Rattle.std.proofs.lemmas.Option.{slice_get_read}
 use Rattle.redo_table.specs.Schedule.{StageView, is_decided}
@@ -20,11 +21,6 @@ pub get-other : {X : Type 0} (xs : List X) (i k : ℕ) (y : X) → (i ≡ k → 
 get-other (z ∷ xs) zero zero y n = absurd (n refl)
 get-other (z ∷ xs) (suc i) (suc k) y n = get-other xs i k y (λ e. n (ap suc e))
 get-other _ _ _ y n = refl
-
-pub cases_eq : (i k : ℕ) → (i ≡ k) ⊎ (i ≡ k → ⊥)
-cases_eq zero zero = inl refl
-cases_eq (suc i) (suc k) = elim (cases_eq i k) [ inl same ↦ inl (ap suc same) | inr other ↦ inr (λ e. other (omega (arith, e))) ]
-cases_eq _ _ = inr (λ e. omega (arith, e))
 
 -- an item is the one that was set, or was there before
 pub set-cases : {X : Type 0} (xs : List X) (i k : ℕ) (x y z : X) → slice_get xs i ≡ Some x → slice_get (slice_set xs i y) k ≡ Some z →

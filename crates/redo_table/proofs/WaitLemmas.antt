@@ -11,12 +11,12 @@ use Rattle.redo_table.specs.inside.Targets.{is_plain}
 use Rattle.redo_table.specs.declared.stage.Stage.{Stage}
 use Rattle.std.specs.Prelude.{Vec}
 use Rattle.std.specs.declared.alloc.Global.{Global}
-use Rattle.std.proofs.lemmas.Bool.{both_ways, cases_lt}
+use Rattle.std.proofs.lemmas.Bool.{both_ways, cases_lt, cases_eq}
 use Rattle.redo_table.proofs.NumberLemmas.{times-push, times-append, times-nil, times-index, times-there, at-same}
 use Rattle.redo_table.proofs.NumberLemmas.{at as one-at}
 use Rattle.std.proofs.lemmas.Option.{slice_get_within}
 use Rattle.redo_table.specs.inside.Targets.{IsLackingAt, AreDecidedFrom, LacksAt}
-use Rattle.redo_table.proofs.TargetLemmas.{get-same, get-other, cases_eq, set-cases, stages-set, stages-same, stage-there, target-there, decided-is, view-there}
+use Rattle.redo_table.proofs.TargetLemmas.{get-same, get-other, set-cases, stages-set, stages-same, stage-there, target-there, decided-is, view-there}
 use Rattle.redo_table.proofs.TargetLemmas.{push-cases, push-before, stages-push, waiting-is}
 use Rattle.redo_table.specs.Schedule.{EachLacks}
 
