@@ -93,23 +93,18 @@ module _ (r : Rules) (lawful : AreLawful r) where
   answered_count-still a b more [] targets still p m = absurd m
   answered_count-still a b more (x ∷ ps) targets still p m =
       let rest = answered_count-more a b more ps (λ q n. targets q (inr n)) in
+      let from_first : b x ≡ a x → b p ≡ a p = λ first. elim m [
+        | inl here ↦ let P : List ℕ → Type 0 = λ y. b y ≡ a y in subst P here first
+        | inr later ↦
+            let fewer = rw first at still in
+            answered_count-still a b more ps (λ q n. targets q (inr n)) (omega (arith, fewer)) p later
+      ] in
       elim (cases_Option (a x)) [
         | inl none ↦ elim (cases_Option (b x)) [
-          | inl none' ↦
-              let fewer = rw (none, none') at still in
-              elim m [
-                | inl here ↦ let P : List ℕ → Type 0 = λ y. b y ≡ a y in subst P here (none' ∙ sym none)
-                | inr later ↦ answered_count-still a b more ps (λ q n. targets q (inr n)) (omega (arith, fewer)) p later
-              ]
+          | inl none' ↦ from_first (none' ∙ sym none)
           | inr some' ↦ absurd (let fewer = rw (none, some'.1) at still in omega (arith, rest, fewer))
         ]
-        | inr some ↦
-            let also = more x some.0 (targets x (inl refl)) some.1 in
-            let fewer = rw (some.1, also) at still in
-            elim m [
-              | inl here ↦ let P : List ℕ → Type 0 = λ y. b y ≡ a y in subst P here (also ∙ sym some.1)
-              | inr later ↦ answered_count-still a b more ps (λ q n. targets q (inr n)) (omega (arith, fewer)) p later
-            ]
+        | inr some ↦ from_first (more x some.0 (targets x (inl refl)) some.1 ∙ sym some.1)
       ]
 
   module _ (request : List (List ℕ)) where
@@ -196,11 +191,8 @@ module _ (r : Rules) (lawful : AreLawful r) where
       stays_from (suc n) h p m = elim (cases_lt n full_depth.0) [
         | inl above ↦ let e : full_depth.0 ≡ suc n = omega arith in (rw e refl, rw e refl)
         | inr below ↦
-            let here = stays_from n below p m in
-            let s = reached-target limit limit p m in
-            let now : outcome_at r (suc n) p ≡ outcome_at r full_depth.0 p =
-            outcome_at-step n p s ∙ ap (λ (x : Progress). x.outcome) (sym here.1) ∙ sym (outcome_at-step full_depth.0 p s) ∙ stood p m in (
-              now,
+            let here = stays_from n below p m in (
+              step_of n p m here,
               (lawful.each p).local (outcome_at r full_depth.0) (outcome_at r (suc n)) (λ q asks.
                   let member = closed_at_limit p q m (asked_at-grows full_depth.0 limit p q (omega (arith, full_depth.1)) asks) in
                   sym (step_of n q member (stays_from n below q member))),

@@ -1,5 +1,5 @@
 -- What a job that is taken may rely on, and that the piece that comes back is what the schedule says.
-use Rattle.std.proofs.Common.{◌≡◌, ℕ, ◌&&◌, max, inl, inr, List, Some, None, refl, sym, ap, subst, ◌∙◌, arith, ◌+◌, ◌<◌}
+use Rattle.std.proofs.Common.{◌≡◌, ℕ, ◌&&◌, max, inl, inr, List, Some, None, refl, sym, ap, subst, ◌∙◌, arith, ◌+◌, ◌<◌, ◌≤◌}
 use Rattle.std.proofs.Common.{true, false}
 use Rattle.std.proofs.lemmas.Bool.{cases_Bool, cases_lt, both_ways}
 use Rattle.redo_names.proofs.PathLemmas.{among-told}
@@ -38,26 +38,25 @@ module _ (r : Rules) (lawful : AreLawful r) (p : List ℕ) where
   not-fewer : (a b c : Ask) → Extends r a c → Extends r b c → (looks looks' turn turn' : ℕ) →
       CameTo r p a (looks + turn) → CameTo r p b (looks' + turn') →
       ((q : List ℕ) → IsAmong (operands r (deps_at_turn r p a (looks + turn))) q → a q ≡ None → ⊥) →
-      begins_at r p a looks ≡ true → ((k : ℕ) → k < looks' → begins_at r p b k ≡ false) → looks < looks' → ⊥
-  not-fewer a b c ac bc looks looks' turn turn' came_a came_b fed begun in_check below =
-      let one = begun-more a c ac looks turn came_a fed in
-      let two = begins-before r lawful p b c bc (looks' + turn') came_b looks (omega arith) in
-      both_ways _ (in_check looks below) (two ∙ sym one ∙ begun)
+      begins_at r p a looks ≡ true → ((k : ℕ) → k < looks' → begins_at r p b k ≡ false) → looks' ≤ looks
+  not-fewer a b c ac bc looks looks' turn turn' came_a came_b fed begun in_check = elim (cases_lt looks looks') [
+    | inl below ↦ absurd (
+        let one = begun-more a c ac looks turn came_a fed in
+        let two = begins-before r lawful p b c bc (looks' + turn') came_b looks (omega arith) in
+        both_ways _ (in_check looks below) (two ∙ sym one ∙ begun))
+    | inr enough ↦ enough
+  ]
 
   pub looks_agree : (a b c : Ask) → Extends r a c → Extends r b c → (looks looks' turn turn' : ℕ) →
       CameTo r p a (looks + turn) → CameTo r p b (looks' + turn') →
       ((q : List ℕ) → IsAmong (operands r (deps_at_turn r p a (looks + turn))) q → a q ≡ None → ⊥) →
       ((q : List ℕ) → IsAmong (operands r (deps_at_turn r p b (looks' + turn'))) q → b q ≡ None → ⊥) →
       IsBegunAt r p a looks → IsBegunAt r p b looks' → looks ≡ looks'
-  looks_agree a b c ac bc looks looks' turn turn' came_a came_b fed_a fed_b at_a at_b = elim (cases_lt looks looks') [
-    | inl below ↦
-        absurd (not-fewer a b c ac bc looks looks' turn turn' came_a came_b fed_a at_a.begun at_b.in_check below)
-    | inr above ↦ elim (cases_lt looks' looks) [
-      | inl below ↦
-          absurd (not-fewer b a c bc ac looks' looks turn' turn came_b came_a fed_b at_b.begun at_a.in_check below)
-      | inr same ↦ omega arith
-    ]
-  ]
+  looks_agree a b c ac bc looks looks' turn turn' came_a came_b fed_a fed_b at_a at_b = omega (
+    arith,
+    not-fewer a b c ac bc looks looks' turn turn' came_a came_b fed_a at_a.begun at_b.in_check,
+    not-fewer b a c bc ac looks' looks turn' turn came_b came_a fed_b at_b.begun at_a.in_check,
+  )
 
 module _ (r : Rules) (lawful : AreLawful r) (request : List (List ℕ)) (es : List Entry) (standing : AreStanding r request es)
     (p : List ℕ) (e : Entry) (at : entry_of es p ≡ Some e) (open' : e.outcome ≡ None)

@@ -3,7 +3,7 @@ use Rattle.std.proofs.Common.{◌≡◌, ℕ, zero, suc, ◌<◌, Bool, true, �
 use Rattle.std.proofs.Common.{Some, remove, slice_get, refl, sym, ap, ◌∙◌, arith, bytes_eq}
 use Rattle.std.proofs.lemmas.Bool.{cases_Bool}
 use Rattle.std.proofs.lemmas.Slice.Eq.{bytes_eq-Decides}
-use Rattle.redo_names.proofs.ListLemmas.{IsAmong-append, IsAmong-same, filter-from}
+use Rattle.redo_names.proofs.ListLemmas.{IsAmong-append, IsAmong-same}
 use Rattle.redo_names.proofs.PathLemmas.{place-among}
 use Rattle.redo_record.specs.Paths.{IsAmong, AreDistinct}
 use Rattle.redo_build.specs.Schedule.{Entry, paths_of, entry_of}
@@ -51,13 +51,6 @@ filter-keeps f (x ∷ ps) p m t = elim m [
     | inl y ↦ rw y (inr (filter-keeps f ps p later t))
     | inr n ↦ rw n (filter-keeps f ps p later t)
   ]
-]
-
-pub filter-distinct : (f : List ℕ → Bool) (ps : List (List ℕ)) → AreDistinct ps → AreDistinct (filter f ps)
-filter-distinct f [] d = tt
-filter-distinct f (x ∷ ps) d = elim (cases_Bool (f x)) [
-  | inl y ↦ rw y (λ m. d.0 (filter-from f ps x m), filter-distinct f ps d.1)
-  | inr n ↦ rw n (filter-distinct f ps d.1)
 ]
 
 pub AreDistinct-append : (ps qs : List (List ℕ)) → AreDistinct ps → AreDistinct qs →

@@ -181,9 +181,9 @@ module _ (r : Rules) (lawful : AreLawful r) (request : List (List ℕ)) where
             | inr in_check ↦ inr (lacks_none-true r s.entries e all, in_check)
             | inl starts ↦ absurd (
                 let a : is_none e.outcome ≡ true = is_none-from e.outcome open' in
-                let b : is_among s.ready e.path ≡ false = not_among s.ready e.path (λ m.
+                let b : is_among s.ready e.path ≡ false = false_from_ne_true _ (λ told.
                 not_ready (IsAmong-left s.ready (paths_of (filter (may_run r s) s.entries)) p
-                (IsAmong-same s.ready e.path p path m))) in
+                (IsAmong-same s.ready e.path p path (among-told s.ready e.path told)))) in
                 let free : may_run r s e ≡ true =
                 and_from _ _ (and_from _ _ (and_from _ _ (and_from _ _ a all) (not_from_false _ not_out))
                 (not_from_false _ b)) starts in
@@ -199,9 +199,6 @@ module _ (r : Rules) (lawful : AreLawful r) (request : List (List ℕ)) where
       not_ready-at p e at free =
           let P : List ℕ → Type 0 = λ x. is_among s.ready x ≡ false in
           subst P (entry_of-path s.entries p e at) (may_run-parts r s e free).3
-
-      not_among : (ps : List (List ℕ)) (p : List ℕ) → (IsAmong ps p → ⊥) → is_among ps p ≡ false
-      not_among ps p h = false_from_ne_true _ (λ t. h (among-told ps p t))
 
   pub nothing-standing : AreStanding r request []
   nothing-standing = record {
@@ -219,9 +216,6 @@ module _ (r : Rules) (lawful : AreLawful r) (request : List (List ℕ)) where
     | inl old ↦ absurd (nowhere e old)
     | inr new ↦ ap (λ (x : Entry). x.is_out) new.1 ∙ new-inside r p
   ]
-    where
-      nowhere : (x : Entry) → None ≡ Some x → ⊥
-      nowhere x h = cc
 
   pub opening-sound : IsSound r request (opening r request)
   opening-sound =
@@ -419,16 +413,13 @@ module _ (r : Rules) (lawful : AreLawful r) (request : List (List ℕ)) where
         | inl no_answer ↦ fed.3 x m no_answer
         | inr some ↦
             let target = operand-target r lawful fed.0.deps x m in
-            let also = moved_more x some.0 target (wider_more x some.0 target some.1) in
-            absurd (let P : Option Outcome → Type 0 = λ y. y ≡ Some some.0 in no_some some.0 (subst P none also))
+            let bad : None ≡ Some some.0 = sym none ∙ moved_more x some.0 target (wider_more x some.0 target some.1) in
+            absurd (let both = bad in cc)
       ],
       lawful.begins_stays fed.0.path (known_to r s.entries fed.0) (known_to r moved fed.0)
           (only-more (operands r fed.0.deps) (outcomes_of s.entries) (outcomes_of moved)
           (λ x o t h. moved_more x o t (wider_more x o t h))) fed.4,
     )
-      where
-        no_some : (v : Outcome) → None ≡ Some v → ⊥
-        no_some v h = cc
 
     moved_cases : (q : List ℕ) (x : Entry) → entry_of moved q ≡ Some x → x.is_out ≡ true → (e.path ≡ q → ⊥) × (entry_of s.entries q ≡ Some x)
     unfolding moved wider

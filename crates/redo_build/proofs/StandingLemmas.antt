@@ -136,17 +136,17 @@ module _ (r : Rules) (lawful : AreLawful r) (request : List (List ℕ)) where
               subst P a (let Q : List Dep → Type 0 = λ y. x ≡ record { outcome = x.outcome; deps = y } in subst Q b refl)
 
       new-closed : (p q : List ℕ) (e : Entry) → e ≡ new_entry r p → IsAmong (operands r e.deps) q → ⊥
-      new-closed p q e is m = elim (cases_Bool (r.has_rule p)) [
-        | inl ruled ↦
-            let deps : e.deps ≡ [] = ap (λ (x : Entry). x.deps) is ∙ rw ruled refl in
-            let P : List Dep → Type 0 = λ ds. IsAmong (operands r ds) q in
-            subst P deps m
-        | inr unruled ↦
-            let deps : e.deps ≡ (r.progress p nothing_known).deps = ap (λ (x : Entry). x.deps) is ∙ rw unruled refl in
-            let P : List Dep → Type 0 = λ ds. IsAmong (operands r ds) q in
-            let Q : List (List ℕ) → Type 0 = λ xs. IsAmong xs q in
-            subst Q (lawful.unruled p nothing_known unruled).0 (subst P deps m)
-      ]
+      new-closed p q e is m =
+          let P : List Dep → Type 0 = λ ds. IsAmong (operands r ds) q in
+          elim (cases_Bool (r.has_rule p)) [
+            | inl ruled ↦
+                let deps : e.deps ≡ [] = ap (λ (x : Entry). x.deps) is ∙ rw ruled refl in
+                subst P deps m
+            | inr unruled ↦
+                let deps : e.deps ≡ (r.progress p nothing_known).deps = ap (λ (x : Entry). x.deps) is ∙ rw unruled refl in
+                let Q : List (List ℕ) → Type 0 = λ xs. IsAmong xs q in
+                subst Q (lawful.unruled p nothing_known unruled).0 (subst P deps m)
+          ]
 
       new-under_way : (p : List ℕ) (e : Entry) → e ≡ new_entry r p → e.outcome ≡ None → IsUnderWay r (entered r es ps) e
       new-under_way p e is open' = elim (cases_Bool (r.has_rule p)) [
