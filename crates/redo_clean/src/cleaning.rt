@@ -1,10 +1,14 @@
 //! The clean of a directory.
 
 ghost use Rattle.std.specs.Prelude.{◌≡◌, ◌++◌, ◌∷◌, [], IfErr, IfOk, OnErr, OnOk, length, map};
+ghost use Rattle.redo_dir.specs.Loaded.{Leads};
 ghost use Rattle.redo_which.specs.Candidates.{book_path};
+ghost use Rattle.redo_dir.specs.declared.work_dir.Seen.TheVariants as seen;
 ghost use Rattle.redo_clean.specs.Cleaned.{AnsweredWhile, MeetFates, HasFate, IsBrokenOff, IsCleaned, IsUnclean};
 ghost use Rattle.redo_clean.specs.Cleaned.{book_removal, clearing, removal, removals};
+ghost use Rattle.redo_clean.specs.declared.fate.Fate.TheVariants.{Gone};
 ghost use Rattle.redo_clean.specs.inside.Files.{IsFault, IsFaultAt, IsLeftFault};
+ghost use Rattle.std.specs.declared.io.ErrorKind.TheVariants.{NotFound};
 
 use crate::fate::Fate;
 use crate::faults::CleanFault;
@@ -16,6 +20,41 @@ use redo_which::BOOK;
 use std::alloc::Global;
 use std::io::ErrorKind;
 
+/// What is to become of a file at whose path a call was refused: one that isn't found is gone.
+fn fate_unseen(kind: ErrorKind) -> Result<Fate, ErrorKind>
+    ensures gone { IfOk result (λ fate. (fate ≡ Gone) × (kind ≡ NotFound)) }
+    ensures refused { IfErr result (λ other. other ≡ kind) }
+{
+    match kind {
+        ErrorKind::NotFound => Ok(Fate::Gone),
+        kind => Err(kind),
+    }
+}
+
+/// What is to become of a file that had this content and that was seen with this size.
+fn fate_of_seen<D: WorkDir>(
+    alloc: Global,
+    dir: &D,
+    path: &Path,
+    content: &Content,
+    size: u64,
+) -> Result<Fate, ErrorKind>
+    requires seen { D.looks dir.now path.now (seen.File size) }
+    ensures fate { IfOk result (HasFate (Leads (D.looks dir.now) (D.reads dir.now)) (D.refuses dir.now) (path.now, content.now)) }
+    ensures refused { IfErr result (D.refuses dir.now path.now) }
+{
+    match dir.read(alloc, path, size) {
+        Ok(bytes) => {
+            if bytes.as_slice() == content.bytes() {
+                Ok(Fate::Removed)
+            } else {
+                Ok(Fate::Changed)
+            }
+        }
+        Err(error) => fate_unseen(error.kind()),
+    }
+}
+
 /// What is to become of a file that had this content, as it stands now.
 fn fate_of<D: WorkDir>(
     alloc: Global,
@@ -23,22 +62,13 @@ fn fate_of<D: WorkDir>(
     path: &Path,
     content: &Content,
 ) -> Result<Fate, ErrorKind>
-    ensures fate { IfOk result (HasFate (D.leads dir.now) (D.refuses dir.now) (path.now, content.now)) }
+    ensures fate { IfOk result (HasFate (Leads (D.looks dir.now) (D.reads dir.now)) (D.refuses dir.now) (path.now, content.now)) }
     ensures refused { IfErr result (D.refuses dir.now path.now) }
 {
     match dir.look(alloc, path) {
-        Ok(Seen::File(bytes)) => {
-            if bytes.as_slice() == content.bytes() {
-                Ok(Fate::Removed)
-            } else {
-                Ok(Fate::Changed)
-            }
-        }
+        Ok(Seen::File(size)) => fate_of_seen(alloc, dir, path, content, size),
         Ok(Seen::Directory | Seen::Other) => Ok(Fate::NoFile),
-        Err(error) => match error.kind() {
-            ErrorKind::NotFound => Ok(Fate::Gone),
-            kind => Err(kind),
-        },
+        Err(error) => fate_unseen(error.kind()),
     }
 }
 
@@ -49,7 +79,7 @@ fn clean_file<D: WorkDir>(
     path: &Path,
     content: &Content,
 ) -> Result<Fate, ErrorKind>
-    ensures fate { IfOk result (HasFate (D.leads dir.old) (D.refuses dir.old) (path.now, content.now)) }
+    ensures fate { IfOk result (HasFate (Leads (D.looks dir.old) (D.reads dir.old)) (D.refuses dir.old) (path.now, content.now)) }
     ensures removed { IfOk result (λ fate. D.done dir.new ≡ D.done dir.old ++ removal (path.now, content.now) fate) }
     ensures kept { OnErr result (D.done dir.new ≡ D.done dir.old) }
     ensures refused { IfErr result (D.refuses dir.old path.now) }
@@ -88,7 +118,7 @@ fn clean_files<D: WorkDir>(
     fates: &mut Vec<Fate>,
 ) -> Result<(), CleanFault>
     requires none { fates.old.items ≡ [] }
-    ensures met { MeetFates (AnsweredWhile D.done D.leads) (AnsweredWhile D.done D.refuses)
+    ensures met { MeetFates (AnsweredWhile D.done (λ d. Leads (D.looks d) (D.reads d))) (AnsweredWhile D.done D.refuses)
         (D.done dir.old) files.now fates.new.items }
     ensures all { OnOk result (length fates.new.items ≡ length files.now) }
     ensures removed { D.done dir.new ≡ D.done dir.old ++ removals files.now fates.new.items }
@@ -136,9 +166,9 @@ fn remove_book<D: WorkDir>(alloc: Global, dir: &mut D, has_book: bool) -> Result
     }
 }
 
-/// Cleans a directory as it is planned. First what a broken-off run has left is cleared away, then each generated file is
-/// looked at once more, and removed if it still has its bytes, and then the book is removed. Nothing else is. `fates`
-/// is set to what became of the files, in the plan's order, and tells at a fault how far the clean has come.
+/// Cleans a directory as it is planned. First what a broken-off run has left is cleared away. Then each generated file
+/// is looked at and read once more, and removed if it still has its bytes, and then the book is removed. Nothing else
+/// is. `fates` is set to what became of the files, in the plan's order, and tells at a fault how far the clean has come.
 ///
 /// The book goes last: a clean that is broken off leaves records of files that are gone, which the next clean or run takes
 /// as they are.
@@ -148,10 +178,10 @@ pub fn clean<D: WorkDir>(
     plan: &CleanPlan,
     fates: &mut Vec<Fate>,
 ) -> Result<(), CleanFault>
-    ensures cleaned { OnOk result (IsCleaned (AnsweredWhile D.done D.leads) (AnsweredWhile D.done D.refuses)
-        plan.now (D.done dir.old) (D.done dir.new) fates.new.items) }
-    ensures fault { IfErr result (IsBrokenOff (AnsweredWhile D.done D.leads) (AnsweredWhile D.done D.refuses)
-        plan.now (D.done dir.old) (D.done dir.new) fates.new.items) }
+    ensures cleaned { OnOk result (IsCleaned (AnsweredWhile D.done (λ d. Leads (D.looks d) (D.reads d)))
+        (AnsweredWhile D.done D.refuses) plan.now (D.done dir.old) (D.done dir.new) fates.new.items) }
+    ensures fault { IfErr result (IsBrokenOff (AnsweredWhile D.done (λ d. Leads (D.looks d) (D.reads d)))
+        (AnsweredWhile D.done D.refuses) plan.now (D.done dir.old) (D.done dir.new) fates.new.items) }
 {
     fates.clear();
     clear_left(alloc, dir, plan)?;

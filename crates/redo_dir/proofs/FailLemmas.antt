@@ -11,16 +11,21 @@ use Rattle.redo_tree.specs.Tree.{Node, grown, top}
 use Rattle.redo_dir.specs.declared.faults.LoadFault.{LoadFault}
 use Rattle.redo_dir.specs.declared.faults.LoadFault.TheVariants.{Device, Memory}
 use Rattle.redo_dir.specs.declared.looking.Name.{Name}
-use Rattle.redo_dir.specs.Loaded.{ComesTo, IsUnloaded, entries_of, load_fault, names_of}
+use Rattle.redo_dir.specs.Loaded.{ComesTo, IsRefusedBy, IsUnloaded, entries_of, load_fault, names_of}
 use Rattle.redo_dir.specs.inside.Levels.{Breaks, IsAnswered, IsBetween, IsLooked, IsMark, IsStopped, KeepsPaths, ListsLevel}
 use Rattle.redo_dir.specs.inside.Levels.{Progress, ReceivesName, Refuses, StopsAt, node_found, paths_of, with_none_noted, with_none_waiting}
 use Rattle.redo_dir.proofs.LevelLemmas.{listed, received, seen_leads}
 use Rattle.redo_dir.proofs.ListingLemmas.{AllZip-append, entries-append, grown-none, grown-on, names-append}
 
 -- the fault of a call that was refused
-pub refused_call : (lists : List ℕ → List (Option (List ℕ)) → Type 0) (leads : List ℕ → Option Node → Type 0) (refuses : List ℕ → ErrorKind → Type 0) (path : List ℕ) (kind : ErrorKind) → refuses path kind → IsUnloaded lists leads refuses (load_fault path kind)
-refused_call lists leads refuses path OutOfMemory h = tt
-refused_call lists leads refuses path kind h = inl h
+pub refused_call : (refuses : List ℕ → ErrorKind → Type 0) (path : List ℕ) (kind : ErrorKind) → refuses path kind → IsRefusedBy refuses (load_fault path kind)
+refused_call refuses path OutOfMemory h = tt
+refused_call refuses path kind h = h
+
+-- a directory of which a call was refused isn't read
+pub refused_load : (lists : List ℕ → List (Option (List ℕ)) → Type 0) (leads : List ℕ → Option Node → Type 0) (refuses : List ℕ → ErrorKind → Type 0) (fault : LoadFault) → IsRefusedBy refuses fault → IsUnloaded lists leads refuses fault
+refused_load lists leads refuses (Device path kind) h = inl h
+refused_load lists leads refuses Memory h = tt
 
 -- a call was refused where its fault is no lack of memory
 refused_at : (leads : List ℕ → Option Node → Type 0) (refuses : List ℕ → ErrorKind → Type 0) (path place : List ℕ) (kind : ErrorKind) → load_fault path kind ≡ Device place kind → IsAnswered leads refuses path (Err kind) → refuses place kind

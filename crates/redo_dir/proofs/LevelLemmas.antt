@@ -12,7 +12,8 @@ use Rattle.redo_path.proofs.PartLemmas.{AllByRecursion-append}
 use Rattle.redo_tree.specs.declared.entries.Entry.{Entry}
 use Rattle.redo_tree.specs.Tree.{Node, Directory, File, grown, top}
 use Rattle.redo_dir.specs.declared.looking.Name.{Name}
-use Rattle.redo_dir.specs.Loaded.{ComesTo, IsLoaded, Listing, MayStand, asked, directories, entries_of, names_of}
+use Rattle.redo_dir.specs.declared.work_dir.Seen.TheVariants as seen
+use Rattle.redo_dir.specs.Loaded.{ComesTo, IsLoaded, Leads, Listing, Looks, MayStand, Reads, asked, directories, entries_of, names_of}
 use Rattle.redo_dir.specs.inside.Levels.{EntersNoted, IsAnswered, IsBetween, IsLooked, IsMark, KeepsPaths, ListsDir}
 use Rattle.redo_dir.specs.inside.Levels.{ListsLevel, Notes, Progress, Receives, ReceivesName, paths_of, with_none_noted, with_none_waiting}
 use Rattle.redo_dir.specs.inside.Levels.{node_found, with_noted, with_passed, with_waiting}
@@ -179,10 +180,10 @@ received-seen leads p q dir name path (Some node) mark l r = record {
   counts = λ x e. r.counts ∙ e;
 }
 
--- what was found at a path, or a lack of memory, was answered
-pub answered_found : (leads : List ℕ → Option Node → Type 0) (refuses : List ℕ → ErrorKind → Type 0) (path : List ℕ) (node : Option Node) (found : Result (Option Entry) ErrorKind) → IfOk found (λ e. node_found e ≡ node) → IfErr found (λ kind. kind ≡ OutOfMemory) → leads path node → IsAnswered leads refuses path found
-answered_found leads refuses path node (Ok e) h m l = subst (leads path) (sym h) l
-answered_found leads refuses path node (Err kind) h m l = subst (λ k. IsAnswered leads refuses path (Err k)) (sym m) tt
+-- a file that was looked at and read, or a lack of memory, was answered
+pub answered_file : (looks : Looks) (reads : Reads) (refuses : List ℕ → ErrorKind → Type 0) (path : List ℕ) (size : ℕ) (bytes : List ℕ) (found : Result (Option Entry) ErrorKind) → IfOk found (λ e. node_found e ≡ Some (File bytes)) → IfErr found (λ kind. kind ≡ OutOfMemory) → looks path (seen.File size) → reads path size bytes → IsAnswered (Leads looks reads) refuses path found
+answered_file looks reads refuses path size bytes (Ok e) h m l r = subst (Leads looks reads path) (sym h) (size, l, r)
+answered_file looks reads refuses path size bytes (Err kind) h m l r = subst (λ k. IsAnswered (Leads looks reads) refuses path (Err k)) (sym m) tt
 
 pub answered_refused : (leads : List ℕ → Option Node → Type 0) (refuses : List ℕ → ErrorKind → Type 0) (path : List ℕ) (kind : ErrorKind) → refuses path kind → IsAnswered leads refuses path (Err kind)
 answered_refused leads refuses path OutOfMemory h = tt

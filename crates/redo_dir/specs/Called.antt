@@ -9,8 +9,9 @@ use Rattle.std.specs.declared.io.ErrorKind.TheVariants.{InvalidInput, NotFound, 
 use Rattle.redo_path.specs.Names.{parent_of}
 use Rattle.redo_dir.specs.declared.access.Access.{Access}
 use Rattle.redo_dir.specs.declared.access.Access.TheVariants.{Read, StoreSynced}
+use Rattle.redo_dir.specs.declared.work_dir.Seen.{Seen}
+use Rattle.redo_dir.specs.declared.work_dir.Seen.TheVariants as seen
 use Rattle.redo_dir.specs.Stored.{Step, Finishes, Journals, Puts, Removes}
-use Rattle.redo_tree.specs.Tree.{Node, Directory, File}
 use Rattle.redo_which.specs.Candidates.{book_path, journal_path}
 
 -- what a place was looked at as, or the error
@@ -159,14 +160,20 @@ abbrev pub front_read : ℕ → List ℕ → List ℕ
 front_read zero bytes = bytes
 front_read (suc n) bytes = take (suc n) bytes
 
--- What a place leads to, as the system answered: it was looked at, and where it is a file, that was read.
-abbrev pub LeadsTo : (List ℕ → Found → Type 0) → (List ℕ → Option (List ℕ) → Type 0) → List ℕ → Option Node → Type 0
-LeadsTo stands opens place (Some Directory) = (about : Metadata) × stands place (Ok about) × IsDir (file_type about)
-LeadsTo stands opens place (Some (File bytes)) =
-    (about : Metadata) × stands place (Ok about) × IsFile (file_type about) ×
-    (holds : Option (List ℕ)) × opens place holds × IfSome holds (λ all. bytes ≡ front_read (metadata_len about) all)
-LeadsTo stands opens place None =
-    (about : Metadata) × stands place (Ok about) × (IsDir (file_type about) → ⊥) × (IsFile (file_type about) → ⊥)
+-- what the system says of a place, so far as a run asks
+abbrev pub IsToldAs : Metadata → Seen → Type 0
+IsToldAs about seen.Directory = IsDir (file_type about)
+IsToldAs about (seen.File size) = IsFile (file_type about) × (metadata_len about ≡ size)
+IsToldAs about seen.Other = (IsDir (file_type about) → ⊥) × (IsFile (file_type about) → ⊥)
+
+-- a place was looked at, and the system said this
+abbrev pub IsStandingAs : (List ℕ → Found → Type 0) → List ℕ → Seen → Type 0
+IsStandingAs stands place answer = (about : Metadata) × stands place (Ok about) × IsToldAs about answer
+
+-- the file at a place was opened, and these bytes were read of it, where its size was this one when it was looked at
+abbrev pub IsOpenedAs : (List ℕ → Option (List ℕ) → Type 0) → List ℕ → ℕ → List ℕ → Type 0
+IsOpenedAs opens place size bytes =
+    (holds : Option (List ℕ)) × opens place holds × IfSome holds (λ all. bytes ≡ front_read size all)
 
 -- the answer of a look, whose errors are of these kinds
 abbrev pub found_of : {E : Type 0} → (E → ErrorKind) → Result Metadata E → Found

@@ -19,11 +19,24 @@ use Rattle.redo_tree.specs.Tree.{Node, Directory, File, Tree, grown, top}
 abbrev pub names_in : List (Option (String Global)) → List (Option (List ℕ))
 names_in names = map (option_map string_bytes) names
 
--- what a path leads to, so far as a tree takes it in: a directory, a file with its bytes, or neither
-abbrev pub node_seen : Seen → Option Node
-node_seen seen.Directory = Some Directory
-node_seen (seen.File bytes) = Some (File bytes.items)
-node_seen seen.Other = None
+-- what a path was looked at as
+abbrev pub Looks : Type 1
+Looks = List ℕ → Seen → Type 0
+
+-- the bytes of the file at a path, whose size was this one when it was looked at
+abbrev pub Reads : Type 1
+Reads = List ℕ → ℕ → List ℕ → Type 0
+
+-- no file is read, and each stays empty
+abbrev pub Unread : Reads
+Unread path size bytes = bytes ≡ []
+
+-- What a path leads to, so far as a tree takes it in: it was looked at as a directory, as a file, of which these bytes
+-- were read, or as neither.
+abbrev pub Leads : Looks → Reads → List ℕ → Option Node → Type 0
+Leads looks reads path (Some Directory) = looks path seen.Directory
+Leads looks reads path (Some (File bytes)) = (size : ℕ) × looks path (seen.File size) × reads path size bytes
+Leads looks reads path None = looks path seen.Other
 
 -- a word that names something in a directory: it leads nowhere else
 abbrev pub is_one_name : List ℕ → Bool
@@ -76,6 +89,10 @@ pub record IsLoaded (lists : List ℕ → List (Option (List ℕ)) → Type 0) (
   pub grows : grown top (entries_of became) ≡ Ok tree
   pub counts : passed ≡ min (count_by is_none became) (2 ^ 64 - 1)
 
+-- By these answers the directory holds the names of this tree. Of its files nothing was read, and each is empty.
+abbrev pub HasNames : (List ℕ → List (Option (List ℕ)) → Type 0) → Looks → Tree → ℕ → Type 0
+HasNames lists looks = IsLoaded lists (Leads looks Unread)
+
 -- names that were listed make no tree: a directory that changes meanwhile may list one twice
 pub record Clash (lists : List ℕ → List (Option (List ℕ)) → Type 0) (leads : List ℕ → Option Node → Type 0) : Type 0 where
   pub read : List Listing
@@ -92,6 +109,11 @@ pub record Clash (lists : List ℕ → List (Option (List ℕ)) → Type 0) (lea
 abbrev pub IsUnloaded : (List ℕ → List (Option (List ℕ)) → Type 0) → (List ℕ → Option Node → Type 0) → (List ℕ → ErrorKind → Type 0) → LoadFault → Type 0
 IsUnloaded lists leads refuses (Device path kind) = refuses path kind ⊎ ((kind ≡ InvalidData) × Clash lists leads)
 IsUnloaded lists leads refuses Memory = Unit {0}
+
+-- a call at this path was refused by this error, or memory ran out
+abbrev pub IsRefusedBy : (List ℕ → ErrorKind → Type 0) → LoadFault → Type 0
+IsRefusedBy refuses (Device path kind) = refuses path kind
+IsRefusedBy refuses Memory = Unit {0}
 
 -- the fault of a call at a path that the system refused
 abbrev pub load_fault : List ℕ → ErrorKind → LoadFault

@@ -1,8 +1,8 @@
 //! Directories: read as trees, and given the files that a build made.
 //!
-//! [`load_dir`] makes a tree of a directory, and [`store_files`] puts files into one, each whole before it gets its
-//! name. Both reach the file system through [`WorkDir`] alone, of which [`SystemDir`] is the system's; a test has one
-//! of its own.
+//! [`load_dir`] makes a tree of a directory, [`load_names`] one of its names alone, and [`store_files`] puts files
+//! into one, each whole before it gets its name. All reach the file system through [`WorkDir`] alone, of which
+//! [`SystemDir`] is the system's; a test has one of its own.
 //!
 //! - `work_dir`: what a run asks of the file system; `changes`: what it changed;
 //! - `system`: a directory of the system; `access`: what a run may do there; `reading`: what a place leads to, and the
@@ -41,7 +41,7 @@ pub use changes::Change;
 pub use clearing::{Left, clear};
 pub use faults::{JournalFault, LoadFault, StoreFault};
 pub use journal::{ToStore, store_by_journal};
-pub use loading::load_dir;
+pub use loading::{load_dir, load_names};
 pub use lock::{DirLock, LockFault, Lockable, lock_dir};
 pub use own::{Tag, journal_path};
 pub use storing::{Writers, store_files};

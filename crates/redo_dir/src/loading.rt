@@ -1,16 +1,18 @@
 //! Reading a directory into a tree, level by level. First the directories of a level are listed, then their names are
-//! looked at, by several threads, and then they are entered into the tree in the order in which they were listed. The
-//! directories among them are the next level, so that no depth costs stack.
+//! looked at, and their files read, by several threads, and then they are entered into the tree in the order in which
+//! they were listed. The directories among them are the next level, so that no depth costs stack.
 
 ghost use Rattle.std.specs.Prelude.{◌≡◌, [], ◌∷◌, IfErr, IfOk, OnOk, Some, option_map, string_bytes};
 ghost use Rattle.std.specs.List.{FoldsTo};
 ghost use Rattle.redo_tree.specs.Tree.{Directory, File, top};
-ghost use Rattle.redo_dir.specs.Loaded.{HasTextPaths, IsLoaded, IsUnloaded, load_fault, names_in};
+ghost use Rattle.redo_dir.specs.Loaded.{HasNames, HasTextPaths, IsLoaded, IsRefusedBy, IsUnloaded, Leads, Unread};
+ghost use Rattle.redo_dir.specs.Loaded.{load_fault, names_in};
 ghost use Rattle.redo_dir.specs.inside.Levels.{Breaks, EntersNoted, IsStopped, ListsDir, ListsLevel, Notes, Receives};
-ghost use Rattle.redo_dir.specs.inside.Levels.{ReceivesName, Refuses, StopsAt, clash_of, node_found, progress, with_passed};
+ghost use Rattle.redo_dir.specs.inside.Levels.{ReceivesName, Refuses, StopsAt, clash_of, node_found, progress, reads_by};
+ghost use Rattle.redo_dir.specs.inside.Levels.{with_passed};
 
 use crate::LoadFault;
-use crate::looking::{Name, look_by};
+use crate::looking::{Contents, Name, Walk, look_by};
 use crate::places::place_of;
 use crate::work_dir::WorkDir;
 use redo_path::Path;
@@ -119,7 +121,7 @@ impl Loading {
     /// Lists a directory, and keeps its names.
     fn list_dir<D: WorkDir>(&mut self, work: &D, alloc: Global, dir: Path) -> Result<(), LoadFault>
         ensures listed { OnOk result (ListsDir (D.lists work.now) (progress self.old) dir (progress self.new)) }
-        ensures refused { IfErr result (IsUnloaded (D.lists work.now) (D.leads work.now) (D.refuses work.now)) }
+        ensures refused { IfErr result (IsRefusedBy (D.refuses work.now)) }
     {
         match work.list(alloc, &dir) {
             Ok(names) => {
@@ -133,7 +135,7 @@ impl Loading {
     /// Lists the directories of a level.
     fn list_level<D: WorkDir>(&mut self, work: &D, alloc: Global) -> Result<(), LoadFault>
         ensures listed { OnOk result (ListsLevel (D.lists work.now) (progress self.old) (progress self.new)) }
-        ensures refused { IfErr result (IsUnloaded (D.lists work.now) (D.leads work.now) (D.refuses work.now)) }
+        ensures refused { IfErr result (IsRefusedBy (D.refuses work.now)) }
     {
         let dirs = mem::replace(&mut self.waiting, Vec::new(alloc));
         'dirs: for dir in dirs {
@@ -204,23 +206,52 @@ impl Loading {
         Ok(())
     }
 
-    /// Has the names that were kept looked at by at most N threads, and enters them.
+    /// Has the names that were kept looked at and read, by at most N threads, and enters them.
     fn enter_level<T: Threads + Sync, D: WorkDir + Sync>(
         &mut self,
         rt: &T,
         work: &D,
         alloc: Global,
-        workers: usize,
+        walk: Walk,
     ) -> Result<(), LoadFault>
     where
         D::Draft: Send,
-        ensures all { OnOk result (EntersNoted (D.leads work.now) (D.refuses work.now) (progress self.old) (progress self.new)) }
-        ensures stops { IfErr result (IsStopped (D.leads work.now) (D.refuses work.now) (progress self.old)) }
+        ensures all { OnOk result (EntersNoted (Leads (D.looks work.now) (reads_by walk.contents (D.reads work.now)))
+            (D.refuses work.now) (progress self.old) (progress self.new)) }
+        ensures stops { IfErr result (IsStopped (Leads (D.looks work.now) (reads_by walk.contents (D.reads work.now)))
+            (D.refuses work.now) (progress self.old)) }
     {
         let mut names = mem::replace(&mut self.noted, Vec::new(alloc));
-        look_by(rt, work, alloc, workers, &mut names);
+        look_by(rt, work, alloc, walk, &mut names);
         self.receive_names(names)
     }
+}
+
+/// Walks a directory with all that is below it.
+fn load_by<T: Threads + Sync, D: WorkDir + Sync>(
+    rt: &T,
+    dir: &D,
+    alloc: Global,
+    walk: Walk,
+) -> Result<(Tree, u64), LoadFault>
+where
+    D::Draft: Send,
+    ensures loaded { IfOk result (λ loaded. IsLoaded (D.lists dir.now)
+        (Leads (D.looks dir.now) (reads_by walk.contents (D.reads dir.now))) loaded.0 loaded.1) }
+    ensures text { IfOk result (λ loaded. HasTextPaths loaded.0) }
+    ensures fault { IfErr result (IsUnloaded (D.lists dir.now)
+        (Leads (D.looks dir.now) (reads_by walk.contents (D.reads dir.now))) (D.refuses dir.now)) }
+{
+    let mut loading = Loading::new(alloc)?;
+    for _ in 0..u64::MAX {
+        if loading.waiting.is_empty() {
+            return Ok((loading.tree, loading.passed));
+        }
+        loading.list_level(dir, alloc)?;
+        loading.enter_level(rt, dir, alloc, walk)?;
+    }
+    // No tree of so many levels fits into memory.
+    Err(LoadFault::Memory)
 }
 
 /// Reads a directory with all that is below it, by at most N threads, of which the caller's is one; a level with few
@@ -239,18 +270,31 @@ pub fn load_dir<T: Threads + Sync, D: WorkDir + Sync>(
 ) -> Result<(Tree, u64), LoadFault>
 where
     D::Draft: Send,
-    ensures loaded { IfOk result (λ loaded. IsLoaded (D.lists dir.now) (D.leads dir.now) loaded.0 loaded.1) }
+    ensures loaded { IfOk result (λ loaded.
+        IsLoaded (D.lists dir.now) (Leads (D.looks dir.now) (D.reads dir.now)) loaded.0 loaded.1) }
     ensures text { IfOk result (λ loaded. HasTextPaths loaded.0) }
-    ensures fault { IfErr result (IsUnloaded (D.lists dir.now) (D.leads dir.now) (D.refuses dir.now)) }
+    ensures fault { IfErr result
+        (IsUnloaded (D.lists dir.now) (Leads (D.looks dir.now) (D.reads dir.now)) (D.refuses dir.now)) }
 {
-    let mut loading = Loading::new(alloc)?;
-    for _ in 0..u64::MAX {
-        if loading.waiting.is_empty() {
-            return Ok((loading.tree, loading.passed));
-        }
-        loading.list_level(dir, alloc)?;
-        loading.enter_level(rt, dir, alloc, workers)?;
-    }
-    // No tree of so many levels fits into memory.
-    Err(LoadFault::Memory)
+    let contents = Contents::Read;
+    load_by(rt, dir, alloc, Walk { workers, contents })
+}
+
+/// The tree that [`load_dir`] reads, with each file empty: no file is opened, so that one which can't be read refuses
+/// nothing.
+pub fn load_names<T: Threads + Sync, D: WorkDir + Sync>(
+    rt: &T,
+    dir: &D,
+    alloc: Global,
+    workers: usize,
+) -> Result<(Tree, u64), LoadFault>
+where
+    D::Draft: Send,
+    ensures named { IfOk result (λ loaded. HasNames (D.lists dir.now) (D.looks dir.now) loaded.0 loaded.1) }
+    ensures text { IfOk result (λ loaded. HasTextPaths loaded.0) }
+    ensures fault { IfErr result
+        (IsUnloaded (D.lists dir.now) (Leads (D.looks dir.now) Unread) (D.refuses dir.now)) }
+{
+    let contents = Contents::Unread;
+    load_by(rt, dir, alloc, Walk { workers, contents })
 }

@@ -1,10 +1,9 @@
-//! The bytes of a file of the system.
+//! What a place of the system leads to, and the bytes of its file.
 
-ghost use Rattle.std.specs.Prelude.{◌≡◌, ◌<◌, ◌≤◌, IfOk, IfSome, List, Ok, Option, length, take, ℕ};
+ghost use Rattle.std.specs.Prelude.{◌≡◌, ◌<◌, ◌≤◌, IfOk, IfSome, length, take};
 ghost use Rattle.std.specs.Io.KnownBytes.{Consumes};
 ghost use Rattle.std.specs.Path.{path_buf_bytes};
-ghost use Rattle.redo_dir.specs.Called.{LeadsTo, front_read};
-ghost use Rattle.redo_dir.specs.Loaded.{node_seen};
+ghost use Rattle.redo_dir.specs.Called.{IsOpenedAs, IsStandingAs, IsToldAs};
 
 use crate::calls::Calls;
 use crate::work_dir::Seen;
@@ -67,29 +66,34 @@ pub(crate) fn read_bytes<F: Read + Drop>(
 }
 
 /// The bytes of the file at a place, which had `size` of them when it was looked at. What it has grown by since isn't read.
-fn read_file<C: Calls>(calls: &C, alloc: Global, place: &PathBuf, size: u64) -> io::Result<Vec<u8>>
-    ensures { IfOk result (λ bytes. (holds : Option (List ℕ)) × C.opens calls.now (path_buf_bytes place.now) holds ×
-        IfSome holds (λ all. bytes.items ≡ front_read size all)) }
+pub(crate) fn read_file<C: Calls>(
+    calls: &C,
+    alloc: Global,
+    place: &PathBuf,
+    size: u64,
+) -> io::Result<Vec<u8>>
+    ensures { IfOk result (λ bytes. IsOpenedAs (C.opens calls.now) (path_buf_bytes place.now) size bytes.items) }
 {
     read_bytes(alloc, calls.open(place)?, size as usize)
 }
 
-/// What a place leads to, of which the system says this.
-pub(crate) fn read_seen<C: Calls>(
-    calls: &C,
-    alloc: Global,
-    place: &PathBuf,
-    about: &Metadata,
-) -> io::Result<Seen>
-    requires { C.stands calls.now (path_buf_bytes place.now) (Ok about.now) }
-    ensures { IfOk result (λ seen. LeadsTo (C.stands calls.now) (C.opens calls.now) (path_buf_bytes place.now) (node_seen seen)) }
+/// What the system says of a place, so far as a run asks.
+fn seen_of(about: &Metadata) -> Seen
+    ensures { IsToldAs about.now result }
 {
     if about.is_dir() {
-        return Ok(Seen::Directory);
+        return Seen::Directory;
     }
     if about.is_file() {
-        let bytes = read_file(calls, alloc, place, about.len())?;
-        return Ok(Seen::File(bytes));
+        return Seen::File(about.len());
     }
-    Ok(Seen::Other)
+    Seen::Other
+}
+
+/// What a place leads to.
+pub(crate) fn look_at<C: Calls>(calls: &C, place: &PathBuf) -> io::Result<Seen>
+    ensures { IfOk result (IsStandingAs (C.stands calls.now) (path_buf_bytes place.now)) }
+{
+    let about = calls.look(place)?;
+    Ok(seen_of(&about))
 }

@@ -14,7 +14,7 @@ use crate::changes::Change;
 use crate::lock::DirLock;
 use crate::new_files::{NewContent, permissions_at, write_new};
 use crate::own::Tag;
-use crate::reading::read_seen;
+use crate::reading::{look_at, read_file};
 use crate::system_calls::SystemCalls;
 use crate::waiting::{check_free, sync_each, sync_names};
 use crate::work_dir::{Drafted, Seen, WorkDir};
@@ -378,12 +378,14 @@ impl<'a, C: Calls> SystemDir<'a, C> {
 impl<'a, C: Calls> WorkDir for SystemDir<'a, C> {
     ghost use Rattle.std.specs.Prelude.{option_map};
     ghost use Rattle.std.specs.Path.{path_join};
-    ghost use Rattle.redo_dir.specs.Called.{LeadsTo};
+    ghost use Rattle.redo_dir.specs.Called.{IsOpenedAs, IsStandingAs};
     ghost use Rattle.redo_dir.specs.Stored.{steps_of};
 
     ghost lists = { λ d dir. C.lists d.calls (path_join d.top.now dir) };
 
-    ghost leads = { λ d path. LeadsTo (C.stands d.calls) (C.opens d.calls) (path_join d.top.now path) };
+    ghost looks = { λ d path. IsStandingAs (C.stands d.calls) (path_join d.top.now path) };
+
+    ghost reads = { λ d path. IsOpenedAs (C.opens d.calls) (path_join d.top.now path) };
 
     ghost refuses = { λ _ _ _. Unit {0} };
 
@@ -400,8 +402,12 @@ impl<'a, C: Calls> WorkDir for SystemDir<'a, C> {
 
     fn look(&self, alloc: Global, path: &Path) -> io::Result<Seen> {
         let place = self.place(alloc, path)?;
-        let about = self.calls.look(&place)?;
-        read_seen(&self.calls, alloc, &place, &about)
+        look_at(&self.calls, &place)
+    }
+
+    fn read(&self, alloc: Global, path: &Path, size: u64) -> io::Result<Vec<u8>> {
+        let place = self.place(alloc, path)?;
+        read_file(&self.calls, alloc, &place, size)
     }
 
     fn journal(&mut self, alloc: Global, text: &Content) -> io::Result<()> {

@@ -2,7 +2,7 @@
 
 ghost use Rattle.std.specs.Prelude.{◌≡◌, ◌≢◌, ◌++◌, ◌∷◌, [], IfErr, IfOk, OnErr, OnOk, Some, length};
 ghost use Rattle.std.specs.IoError.{error_kind};
-ghost use Rattle.redo_dir.specs.Loaded.{names_in, node_seen};
+ghost use Rattle.redo_dir.specs.Loaded.{names_in};
 ghost use Rattle.redo_which.specs.Candidates.{book_path, journal_path};
 ghost use Rattle.redo_dir.specs.Stored.{Finishes, IsNamed, Journals, Removes, put_of};
 
@@ -11,11 +11,12 @@ use redo_tree::Content;
 use std::alloc::{AllocError, Global};
 use std::io;
 
-/// What a path leads to. A link is neither a directory nor a file.
-#[derive(Drop)]
+/// What a path leads to, as a look tells. A link is neither a directory nor a file.
+#[derive(Clone, Copy)]
 pub enum Seen {
     Directory,
-    File(Vec<u8>),
+    /// A file of so many bytes. Some file systems know no sizes, and say 0.
+    File(u64),
     Other,
 }
 
@@ -37,7 +38,7 @@ pub trait Drafted {
 pub trait WorkDir {
     ghost use Rattle.std.specs.Prelude.{List, Option, ℕ};
     ghost use Rattle.std.specs.declared.io.ErrorKind.{ErrorKind};
-    ghost use Rattle.redo_tree.specs.Tree.{Node};
+    ghost use Rattle.redo_dir.specs.declared.work_dir.Seen.{Seen};
     ghost use Rattle.redo_dir.specs.Stored.{Step};
 
     /// A file under a temporary name of the run's own, which was written whole and closed.
@@ -45,8 +46,10 @@ pub trait WorkDir {
 
     // A directory was listed, and these are its names; none stands for a name that isn't text.
     ghost lists: { Self → List ℕ → List (Option (List ℕ)) → Type 0 };
-    // A path was looked at: a directory, a file with its bytes, or neither.
-    ghost leads: { Self → List ℕ → Option Node → Type 0 };
+    // A path was looked at: a directory, a file of some size, or neither.
+    ghost looks: { Self → List ℕ → Seen → Type 0 };
+    // The file at a path was read, which had so many bytes when it was looked at, and these bytes came.
+    ghost reads: { Self → List ℕ → ℕ → List ℕ → Type 0 };
     // A call at a path was answered by this error.
     ghost refuses: { Self → List ℕ → ErrorKind → Type 0 };
     // The calls that changed the directory, in this order.
@@ -59,9 +62,15 @@ pub trait WorkDir {
         ensures answer { IfOk result (λ names. lists self.now dir.now (names_in names.items)) }
         ensures refused { IfErr result (λ error. refuses self.now dir.now (error_kind error)) };
 
-    /// Looks at a path, follows no link, and reads what is a file.
+    /// Looks at a path, and follows no link. What is a file isn't opened.
     fn look(&self, alloc: Global, path: &Path) -> io::Result<Seen>
-        ensures answer { IfOk result (λ seen. leads self.now path.now (node_seen seen)) }
+        ensures answer { IfOk result (looks self.now path.now) }
+        ensures refused { IfErr result (λ error. refuses self.now path.now (error_kind error)) };
+
+    /// Reads the file at a path that had `size` bytes when it was looked at: the first `size` of those that it has
+    /// now, and all where the size is 0.
+    fn read(&self, alloc: Global, path: &Path, size: u64) -> io::Result<Vec<u8>>
+        ensures answer { IfOk result (λ bytes. reads self.now path.now size bytes.items) }
         ensures refused { IfErr result (λ error. refuses self.now path.now (error_kind error)) };
 
     /// Writes the journal with this text, in its own place, and waits until it is on the disk. The error is

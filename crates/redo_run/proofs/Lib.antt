@@ -1,3 +1,4 @@
+pub mod CandidateLemmas
 pub mod CrossingLemmas
 pub mod DirectoryLemmas
 pub mod DrivingLemmas

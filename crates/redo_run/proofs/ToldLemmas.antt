@@ -132,7 +132,7 @@ pub listed : (tree : Tree) (target : List ℕ) (found : Search) → found.missin
     option_map place_of found.chosen ≡ chosen_of tree target → search_text found ≡ candidate_text tree target
 listed tree target found missing chosen = rw (missing, chosen) refl
 
-found_some : {A B : Type 0} (f : A → B) (o : Option A) (p : Option B) (r : Bool) → option_map f o ≡ p → r ≡ is_some o → IsTrue r ↔ IsSome p
+pub found_some : {A B : Type 0} (f : A → B) (o : Option A) (p : Option B) (r : Bool) → option_map f o ≡ p → r ≡ is_some o → IsTrue r ↔ IsSome p
 found_some f None p r e i = rw (← e, i) (search rules)
 found_some f (Some x) p r e i = rw (← e, i) (search rules)
 

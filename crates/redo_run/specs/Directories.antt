@@ -10,20 +10,19 @@ use Rattle.redo_rules.specs.Results.{IsGiven, IsOfTree, IsRefused, IsResult, Nee
 use Rattle.redo_past.specs.NewBook.{IsWithBook}
 use Rattle.redo_report.specs.ReportText.{report_text}
 use Rattle.redo_report.specs.declared.report.Report.{Report}
-use Rattle.redo_tree.specs.Tree.{Node, Tree, file_at, without}
+use Rattle.redo_tree.specs.Tree.{Tree, file_at, without}
 use Rattle.redo_which.specs.Candidates.{book_path, journal_path}
 use Rattle.redo_which.specs.Rule.{chosen_of}
-use Rattle.redo_dir.specs.Loaded.{Clash, IsLoaded}
+use Rattle.redo_dir.specs.Loaded.{Clash, HasNames, IsLoaded, Leads, Looks, Reads, Unread}
 use Rattle.redo_dir.specs.Stored.{Step}
 use Rattle.redo_mend.specs.Mended.{MendsTo}
-use Rattle.redo_dir.specs.declared.faults.LoadFault.{LoadFault}
-use Rattle.redo_dir.specs.declared.faults.LoadFault.TheVariants as load
+use Rattle.redo_dir.specs.declared.work_dir.Seen.{Seen}
 use Rattle.redo_run.specs.declared.directory.DirRun.{DirRun}
 use Rattle.redo_run.specs.declared.exit.Exit.{Exit}
 use Rattle.redo_run.specs.declared.options.Options.{Options}
 use Rattle.redo_run.specs.declared.dir_fault.RunDirFault.{RunDirFault}
 use Rattle.redo_run.specs.declared.dir_fault.RunDirFault.TheVariants.{Load, Book, TooMany, Store, Journal, Left, Device, Memory}
-use Rattle.redo_run.specs.Candidates.{candidate_text}
+use Rattle.redo_run.specs.Candidates.{HaveSameFiles, candidate_text}
 use Rattle.redo_run.specs.Exits.{IsExitOf}
 use Rattle.redo_run.specs.Runs.{request_in}
 use Rattle.redo_run.specs.Storing.{StopsAt, clearing, storing, to_store}
@@ -63,43 +62,38 @@ abbrev pub IsFileOrNone : (List ℕ → ErrorKind → Type 0) → Tree → List 
 IsFileOrNone refuses tree path = IsSome (file_at tree path) ⊎ refuses path NotFound
 
 -- whether something stands at this path that is no file of the tree
-abbrev pub IsBlocked : (List ℕ → Option Node → Type 0) → (List ℕ → ErrorKind → Type 0) → Tree → List ℕ → Bool → Type 0
-IsBlocked leads refuses tree path false = IsFileOrNone refuses tree path
-IsBlocked leads refuses tree path true = (file_at tree path ≡ None) × (node : Option Node) × leads path node
-
--- a call at the path was refused by this error
-abbrev pub IsRefusedBy : (List ℕ → ErrorKind → Type 0) → LoadFault → Type 0
-IsRefusedBy refuses (load.Device path kind) = refuses path kind
-IsRefusedBy refuses load.Memory = Unit {0}
+abbrev pub IsBlocked : Looks → (List ℕ → ErrorKind → Type 0) → Tree → List ℕ → Bool → Type 0
+IsBlocked looks refuses tree path false = IsFileOrNone refuses tree path
+IsBlocked looks refuses tree path true = (file_at tree path ≡ None) × (seen : Seen) × looks path seen
 
 -- what stands in the place of the book or of the journal is no file of the tree that was loaded
-pub record HasNoFile (lists : List ℕ → List (Option (List ℕ)) → Type 0) (leads : List ℕ → Option Node → Type 0) : Type 0 where
+pub record HasNoFile (lists : List ℕ → List (Option (List ℕ)) → Type 0) (looks : Looks) (reads : Reads) : Type 0 where
   pub tree : Tree
   pub passed : ℕ
-  pub loaded : IsLoaded lists leads tree passed
+  pub loaded : IsLoaded lists (Leads looks reads) tree passed
   pub path : List ℕ
   pub own : (path ≡ book_path) ⊎ (path ≡ journal_path)
   pub none : file_at tree path ≡ None
-  pub node : Option Node
-  pub stands : leads path node
+  pub seen : Seen
+  pub stands : looks path seen
 
 -- why a directory can't be read: a call was refused, the names that were listed make no tree, or its book or journal is
 -- no file
-abbrev pub IsUnreadable : (List ℕ → List (Option (List ℕ)) → Type 0) → (List ℕ → Option Node → Type 0) → (List ℕ → ErrorKind → Type 0) → Type 0
-IsUnreadable lists leads refuses =
-    ((path : List ℕ) × (kind : ErrorKind) × refuses path kind) ⊎ (Clash lists leads ⊎ HasNoFile lists leads)
+abbrev pub IsUnreadable : (List ℕ → List (Option (List ℕ)) → Type 0) → Looks → Reads → (List ℕ → ErrorKind → Type 0) → Type 0
+IsUnreadable lists looks reads refuses =
+    ((path : List ℕ) × (kind : ErrorKind) × refuses path kind) ⊎ (Clash lists (Leads looks reads) ⊎ HasNoFile lists looks reads)
 
 -- a load fails for no other reason, or for want of memory
-abbrev pub IsUnread : (List ℕ → List (Option (List ℕ)) → Type 0) → (List ℕ → Option Node → Type 0) → (List ℕ → ErrorKind → Type 0) → RunDirFault → Type 0
-IsUnread lists leads refuses Load = IsUnreadable lists leads refuses
-IsUnread lists leads refuses Memory = Unit {0}
-IsUnread lists leads refuses _ = ⊥
+abbrev pub IsUnread : (List ℕ → List (Option (List ℕ)) → Type 0) → Looks → Reads → (List ℕ → ErrorKind → Type 0) → RunDirFault → Type 0
+IsUnread lists looks reads refuses Load = IsUnreadable lists looks reads refuses
+IsUnread lists looks reads refuses Memory = Unit {0}
+IsUnread lists looks reads refuses _ = ⊥
 
 -- a tree was loaded and mended, and built without what is to be taken back
-pub record Ran (lists : List ℕ → List (Option (List ℕ)) → Type 0) (leads : List ℕ → Option Node → Type 0) (options : Options) : Type 0 where
+pub record Ran (lists : List ℕ → List (Option (List ℕ)) → Type 0) (looks : Looks) (reads : Reads) (options : Options) : Type 0 where
   pub loaded : Tree
   pub passed : ℕ
-  pub is_loaded : IsLoaded lists leads loaded passed
+  pub is_loaded : IsLoaded lists (Leads looks reads) loaded passed
   pub mended : Tree
   pub mends : MendsTo loaded mended
   pub report : Report
@@ -115,9 +109,9 @@ steps_of loaded mended report book = clearing loaded mended ++ storing mended (t
 -- A tree was loaded and mended, and built without what is to be taken back; all steps were done by which what a broken-off
 -- run had left is cleared away and the build is stored; and the writer took the report, without the files, and nothing
 -- else.
-pub record ReportsTree (lists : List ℕ → List (Option (List ℕ)) → Type 0) (leads : List ℕ → Option Node → Type 0) (options : Options) (before after : List Step) (old new : Option (List ℕ)) (run : DirRun) : Type 0 where
+pub record ReportsTree (lists : List ℕ → List (Option (List ℕ)) → Type 0) (looks : Looks) (reads : Reads) (options : Options) (before after : List Step) (old new : Option (List ℕ)) (run : DirRun) : Type 0 where
   pub loaded : Tree
-  pub is_loaded : IsLoaded lists leads loaded run.passed
+  pub is_loaded : IsLoaded lists (Leads looks reads) loaded run.passed
   pub mended : Tree
   pub mends : MendsTo loaded mended
   pub past : IsOfTree (to_build options mended) run.past
@@ -127,17 +121,17 @@ pub record ReportsTree (lists : List ℕ → List (Option (List ℕ)) → Type 0
 
 -- a tree was loaded, and its book is refused for this line, or the mended tree isn't built for this reason, without what
 -- is to be taken back
-pub record Stays (lists : List ℕ → List (Option (List ℕ)) → Type 0) (leads : List ℕ → Option Node → Type 0) (options : Options) (fault : RunDirFault) : Type 0 where
+pub record Stays (lists : List ℕ → List (Option (List ℕ)) → Type 0) (looks : Looks) (reads : Reads) (options : Options) (fault : RunDirFault) : Type 0 where
   pub loaded : Tree
   pub passed : ℕ
-  pub is_loaded : IsLoaded lists leads loaded passed
+  pub is_loaded : IsLoaded lists (Leads looks reads) loaded passed
   pub why : IsUnmended loaded fault ⊎ ((mended : Tree) × MendsTo loaded mended × IsUnbuilt (to_build options mended) options fault)
 
 -- a tree was loaded and mended, and built without what is to be taken back; and the writer took the report, without the
 -- files, and nothing else
-pub record PreviewsTree (lists : List ℕ → List (Option (List ℕ)) → Type 0) (leads : List ℕ → Option Node → Type 0) (options : Options) (old new : Option (List ℕ)) (run : DirRun) : Type 0 where
+pub record PreviewsTree (lists : List ℕ → List (Option (List ℕ)) → Type 0) (looks : Looks) (reads : Reads) (options : Options) (old new : Option (List ℕ)) (run : DirRun) : Type 0 where
   pub loaded : Tree
-  pub is_loaded : IsLoaded lists leads loaded run.passed
+  pub is_loaded : IsLoaded lists (Leads looks reads) loaded run.passed
   pub mended : Tree
   pub mends : MendsTo loaded mended
   pub past : IsOfTree (to_build options mended) run.past
@@ -145,39 +139,40 @@ pub record PreviewsTree (lists : List ℕ → List (Option (List ℕ)) → Type 
   pub written : Appends old new (report_text run.report false)
 
 -- why a run that stores nothing has no report
-abbrev pub FallsInPreview : (List ℕ → List (Option (List ℕ)) → Type 0) → (List ℕ → Option Node → Type 0) → (List ℕ → ErrorKind → Type 0) → Options → RunDirFault → Type 0
-FallsInPreview lists leads refuses options Load = IsUnreadable lists leads refuses
-FallsInPreview lists leads refuses options (Book n) = Stays lists leads options (Book n)
-FallsInPreview lists leads refuses options TooMany = Stays lists leads options TooMany
-FallsInPreview lists leads refuses options Device = Ran lists leads options
-FallsInPreview lists leads refuses options Memory = Unit {0}
-FallsInPreview lists leads refuses options _ = ⊥
+abbrev pub FallsInPreview : (List ℕ → List (Option (List ℕ)) → Type 0) → Looks → Reads → (List ℕ → ErrorKind → Type 0) → Options → RunDirFault → Type 0
+FallsInPreview lists looks reads refuses options Load = IsUnreadable lists looks reads refuses
+FallsInPreview lists looks reads refuses options (Book n) = Stays lists looks reads options (Book n)
+FallsInPreview lists looks reads refuses options TooMany = Stays lists looks reads options TooMany
+FallsInPreview lists looks reads refuses options Device = Ran lists looks reads options
+FallsInPreview lists looks reads refuses options Memory = Unit {0}
+FallsInPreview lists looks reads refuses options _ = ⊥
 
 -- Why a run has no report, and which steps were done all the same. None is done before the build has answered.
-abbrev pub IsFaultOf : (List ℕ → List (Option (List ℕ)) → Type 0) → (List ℕ → Option Node → Type 0) → (List ℕ → ErrorKind → Type 0) → (List ℕ → ErrorKind → Type 0) → Options → List Step → List Step → RunDirFault → Type 0
-IsFaultOf lists leads refuses told options before after Load = IsUnreadable lists leads refuses × (after ≡ before)
-IsFaultOf lists leads refuses told options before after (Book n) =
-    Stays lists leads options (Book n) × (after ≡ before)
-IsFaultOf lists leads refuses told options before after TooMany =
-    Stays lists leads options TooMany × (after ≡ before)
-IsFaultOf lists leads refuses told options before after (Store place) =
-    (r : Ran lists leads options) × StopsAt told (steps_of r.loaded r.mended r.report r.book) before after (length (clearing r.loaded r.mended) + suc place)
-IsFaultOf lists leads refuses told options before after Journal =
-    (r : Ran lists leads options) × StopsAt told (steps_of r.loaded r.mended r.report r.book) before after (length (clearing r.loaded r.mended))
-IsFaultOf lists leads refuses told options before after Left =
-    (r : Ran lists leads options) × (count : ℕ) × (count < length (clearing r.loaded r.mended)) × StopsAt told (steps_of r.loaded r.mended r.report r.book) before after count
-IsFaultOf lists leads refuses told options before after Device =
-    (r : Ran lists leads options) × (after ≡ before ++ steps_of r.loaded r.mended r.report r.book)
-IsFaultOf lists leads refuses told options before after Memory =
+abbrev pub IsFaultOf : (List ℕ → List (Option (List ℕ)) → Type 0) → Looks → Reads → (List ℕ → ErrorKind → Type 0) → (List ℕ → ErrorKind → Type 0) → Options → List Step → List Step → RunDirFault → Type 0
+IsFaultOf lists looks reads refuses told options before after Load = IsUnreadable lists looks reads refuses × (after ≡ before)
+IsFaultOf lists looks reads refuses told options before after (Book n) =
+    Stays lists looks reads options (Book n) × (after ≡ before)
+IsFaultOf lists looks reads refuses told options before after TooMany =
+    Stays lists looks reads options TooMany × (after ≡ before)
+IsFaultOf lists looks reads refuses told options before after (Store place) =
+    (r : Ran lists looks reads options) × StopsAt told (steps_of r.loaded r.mended r.report r.book) before after (length (clearing r.loaded r.mended) + suc place)
+IsFaultOf lists looks reads refuses told options before after Journal =
+    (r : Ran lists looks reads options) × StopsAt told (steps_of r.loaded r.mended r.report r.book) before after (length (clearing r.loaded r.mended))
+IsFaultOf lists looks reads refuses told options before after Left =
+    (r : Ran lists looks reads options) × (count : ℕ) × (count < length (clearing r.loaded r.mended)) × StopsAt told (steps_of r.loaded r.mended r.report r.book) before after count
+IsFaultOf lists looks reads refuses told options before after Device =
+    (r : Ran lists looks reads options) × (after ≡ before ++ steps_of r.loaded r.mended r.report r.book)
+IsFaultOf lists looks reads refuses told options before after Memory =
     (after ≡ before) ⊎
-    ((r : Ran lists leads options) × (count : ℕ) × (after ≡ before ++ take count (steps_of r.loaded r.mended r.report r.book)))
+    ((r : Ran lists looks reads options) × (count : ℕ) × (after ≡ before ++ take count (steps_of r.loaded r.mended r.report r.book)))
 
--- a tree was loaded, and the writer took the list of the target's candidates in it, and nothing else
-pub record ListsTree (lists : List ℕ → List (Option (List ℕ)) → Type 0) (leads : List ℕ → Option Node → Type 0) (target : List ℕ) (old new : Option (List ℕ)) (found : Bool) (passed : ℕ) : Type 0 where
-  pub tree : Tree
-  pub loaded : IsLoaded lists leads tree passed
-  pub written : Appends old new (candidate_text tree target)
-  pub chosen : IsTrue found ↔ IsSome (chosen_of tree target)
+-- The names of a tree were listed, and no file of it was read. The writer took the list of the target's candidates,
+-- and nothing else: that of each tree with files at the same paths, whatever is in them.
+pub record ListsTree (lists : List ℕ → List (Option (List ℕ)) → Type 0) (looks : Looks) (target : List ℕ) (old new : Option (List ℕ)) (found : Bool) (passed : ℕ) : Type 0 where
+  pub names : Tree
+  pub named : HasNames lists looks names passed
+  pub written : (tree : Tree) → HaveSameFiles names tree → Appends old new (candidate_text tree target)
+  pub chosen : (tree : Tree) → HaveSameFiles names tree → (IsTrue found ↔ IsSome (chosen_of tree target))
 
 -- nothing was written, unless the call went well or the writer failed
 abbrev pub IsUnwritten : {A W : Type 0} → Result A RunDirFault → W → W → Type 0
@@ -185,9 +180,9 @@ IsUnwritten (Ok x) old new = Unit {0}
 IsUnwritten (Err Device) old new = Unit {0}
 IsUnwritten _ old new = new ≡ old
 
--- a list of candidates reads no book, builds and stores nothing, and has none of the faults of that
-abbrev pub FallsInList : (List ℕ → List (Option (List ℕ)) → Type 0) → (List ℕ → Option Node → Type 0) → (List ℕ → ErrorKind → Type 0) → RunDirFault → Type 0
-FallsInList lists leads refuses Load = IsUnreadable lists leads refuses
-FallsInList lists leads refuses Device = Unit {0}
-FallsInList lists leads refuses Memory = Unit {0}
-FallsInList lists leads refuses _ = ⊥
+-- a list of candidates reads no file, builds and stores nothing, and has none of the faults of that
+abbrev pub FallsInList : (List ℕ → List (Option (List ℕ)) → Type 0) → Looks → (List ℕ → ErrorKind → Type 0) → RunDirFault → Type 0
+FallsInList lists looks refuses Load = IsUnreadable lists looks Unread refuses
+FallsInList lists looks refuses Device = Unit {0}
+FallsInList lists looks refuses Memory = Unit {0}
+FallsInList lists looks refuses _ = ⊥

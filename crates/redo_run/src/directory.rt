@@ -3,12 +3,11 @@
 ghost use Rattle.std.specs.Prelude.{◌≡◌, ◌↔◌, false, IfErr, IfOk, IsErrOf, true};
 ghost use Rattle.std.specs.Arc.{arc_value};
 ghost use Rattle.redo_core.specs.Permits.{IsUnused};
-ghost use Rattle.redo_dir.specs.Loaded.{IsLoaded};
+ghost use Rattle.redo_dir.specs.Loaded.{HasNames, IsLoaded, IsRefusedBy, Leads, Unread};
 ghost use Rattle.redo_rules.specs.Results.{IsOfTree};
 ghost use Rattle.redo_which.specs.Candidates.{book_path as path_of_book, journal_path as path_of_journal};
 ghost use Rattle.redo_run.specs.DirFaults.{of_load};
-ghost use Rattle.redo_run.specs.Directories.{FallsInList, IsBuilt, IsBlocked, IsFaultOf, IsFileOrNone, IsRefusedBy, IsUnbuilt};
-ghost use Rattle.redo_run.specs.Directories.{IsUnread};
+ghost use Rattle.redo_run.specs.Directories.{FallsInList, IsBuilt, IsBlocked, IsFaultOf, IsFileOrNone, IsUnbuilt, IsUnread};
 ghost use Rattle.redo_run.specs.Directories.{FallsInPreview, IsUnwritten, ListsTree, PreviewsTree, ReportsTree, to_build};
 ghost use Rattle.redo_run.specs.inside.Foreseen.{IsForeseen, IsUnforeseen};
 ghost use Rattle.redo_run.specs.inside.Loading.{HasNoPlace};
@@ -20,7 +19,7 @@ use crate::storing::{Plan, carry_out, to_store};
 use crate::workers::{past_of, report_over};
 use crate::{Cause, Exit, Host, Observer, Options, RunDirFault, Said};
 use redo_bundle::{ByteOut, write_all};
-use redo_dir::{LoadFault, Seen, WorkDir, journal_path, load_dir};
+use redo_dir::{LoadFault, WorkDir, journal_path, load_dir, load_names};
 use redo_mend::{Mended, mend};
 use redo_past::{Past, ReportParts, book_path, has_book};
 use redo_path::Path;
@@ -69,7 +68,7 @@ fn is_blocked<D: WorkDir>(
     tree: &Tree,
     place: &Path,
 ) -> Result<bool, LoadFault>
-    ensures blocked { IfOk result (IsBlocked (D.leads dir.now) (D.refuses dir.now) tree.now place.now) }
+    ensures blocked { IfOk result (IsBlocked (D.looks dir.now) (D.refuses dir.now) tree.now place.now) }
     ensures refused { IfErr result (IsRefusedBy (D.refuses dir.now)) }
 {
     if tree.content(place).is_some() {
@@ -95,8 +94,8 @@ pub fn load<T: Threads + Sync, D: WorkDir + Sync>(
 ) -> Result<(Tree, u64), RunDirFault>
 where
     D::Draft: Send,
-    ensures loaded { IfOk result (λ loaded. IsLoaded (D.lists dir.now) (D.leads dir.now) loaded.0 loaded.1) }
-    ensures unread { IfErr result (IsUnread (D.lists dir.now) (D.leads dir.now) (D.refuses dir.now)) }
+    ensures loaded { IfOk result (λ loaded. IsLoaded (D.lists dir.now) (Leads (D.looks dir.now) (D.reads dir.now)) loaded.0 loaded.1) }
+    ensures unread { IfErr result (IsUnread (D.lists dir.now) (D.looks dir.now) (D.reads dir.now) (D.refuses dir.now)) }
 {
     match load_dir(rt, dir, alloc, workers) {
         Ok(loaded) => Ok(loaded),
@@ -122,7 +121,7 @@ fn check_place<D: WorkDir>(
     cause: &mut Cause,
 ) -> Result<(), RunDirFault>
     ensures alone { IfOk result (λ _. IsFileOrNone (D.refuses dir.now) tree.now place.now.path) }
-    ensures refused { IfErr result (HasNoPlace (D.leads dir.now) (D.refuses dir.now) tree.now place.now.path) }
+    ensures refused { IfErr result (HasNoPlace (D.looks dir.now) (D.refuses dir.now) tree.now place.now.path) }
 {
     match is_blocked(dir, alloc, tree, &place.path) {
         Ok(false) => Ok(()),
@@ -145,10 +144,10 @@ pub fn load_with_book<T: Threads + Sync, D: WorkDir + Sync>(
 ) -> Result<(Tree, u64), RunDirFault>
 where
     D::Draft: Send,
-    ensures loaded { IfOk result (λ loaded. IsLoaded (D.lists dir.now) (D.leads dir.now) loaded.0 loaded.1) }
+    ensures loaded { IfOk result (λ loaded. IsLoaded (D.lists dir.now) (Leads (D.looks dir.now) (D.reads dir.now)) loaded.0 loaded.1) }
     ensures book { IfOk result (λ loaded. IsFileOrNone (D.refuses dir.now) loaded.0 path_of_book) }
     ensures journal { IfOk result (λ loaded. IsFileOrNone (D.refuses dir.now) loaded.0 path_of_journal) }
-    ensures unread { IfErr result (IsUnread (D.lists dir.now) (D.leads dir.now) (D.refuses dir.now)) }
+    ensures unread { IfErr result (IsUnread (D.lists dir.now) (D.looks dir.now) (D.reads dir.now) (D.refuses dir.now)) }
 {
     let (tree, passed) = load(rt, alloc, dir, workers, cause)?;
     let book = FilePlace {
@@ -258,8 +257,8 @@ fn foresee<H: Threads + Wait + Sync, D: WorkDir + Sync, O: Observer>(
 where
     D::Draft: Send,
     requires permit { IsUnused host.old.permit }
-    ensures foreseen { IfOk result (IsForeseen (D.lists dir.now) (D.leads dir.now) options.now) }
-    ensures fault { IfErr result (IsUnforeseen (D.lists dir.now) (D.leads dir.now) (D.refuses dir.now) options.now) }
+    ensures foreseen { IfOk result (IsForeseen (D.lists dir.now) (D.looks dir.now) (D.reads dir.now) options.now) }
+    ensures fault { IfErr result (IsUnforeseen (D.lists dir.now) (D.looks dir.now) (D.reads dir.now) (D.refuses dir.now) options.now) }
 {
     let (tree, passed) = load_with_book(host.rt, host.alloc(), dir, options.workers, cause)?;
     let over = has_book(&tree);
@@ -317,9 +316,9 @@ where
     D::Draft: Send,
     requires permit { IsUnused host.old.permit }
     requires writer { W.has_failed writer.old ≡ false }
-    ensures report { IfOk result (ReportsTree (D.lists dir.old) (D.leads dir.old) options.now
+    ensures report { IfOk result (ReportsTree (D.lists dir.old) (D.looks dir.old) (D.reads dir.old) options.now
         (D.done dir.old) (D.done dir.new) (W.held writer.old) (W.held writer.new)) }
-    ensures fault { IfErr result (IsFaultOf (D.lists dir.old) (D.leads dir.old) (D.refuses dir.old)
+    ensures fault { IfErr result (IsFaultOf (D.lists dir.old) (D.looks dir.old) (D.reads dir.old) (D.refuses dir.old)
         (λ path kind. (d : D) × D.refuses d path kind) options.now (D.done dir.old) (D.done dir.new)) }
     ensures untouched { IsUnwritten result writer.old writer.new }
     ensures device { IsErrOf result RunDirFault.Device ↔ (W.has_failed writer.new ≡ true) }
@@ -342,10 +341,10 @@ where
     D::Draft: Send,
     requires permit { IsUnused host.old.permit }
     requires writer { W.has_failed writer.old ≡ false }
-    ensures report { IfOk result (PreviewsTree (D.lists dir.now) (D.leads dir.now) options.now
+    ensures report { IfOk result (PreviewsTree (D.lists dir.now) (D.looks dir.now) (D.reads dir.now) options.now
         (W.held writer.old) (W.held writer.new)) }
     ensures fault { IfErr result
-        (FallsInPreview (D.lists dir.now) (D.leads dir.now) (D.refuses dir.now) options.now) }
+        (FallsInPreview (D.lists dir.now) (D.looks dir.now) (D.reads dir.now) (D.refuses dir.now) options.now) }
     ensures untouched { IsUnwritten result writer.old writer.new }
     ensures device { IsErrOf result RunDirFault.Device ↔ (W.has_failed writer.new ≡ true) }
 {
@@ -354,8 +353,26 @@ where
     Ok(preview)
 }
 
-/// Reads a directory with all that is below it, and writes the candidates for a target's rule, as `whichdo_bundle`
-/// does. Answers whether one of them is a file, and how many names were passed over.
+/// Reads the names of a directory, and none of its files. Where that can't be done, the cause names where.
+fn load_unread<T: Threads + Sync, D: WorkDir + Sync>(
+    rt: &T,
+    alloc: Global,
+    dir: &D,
+    cause: &mut Cause,
+) -> Result<(Tree, u64), RunDirFault>
+where
+    D::Draft: Send,
+    ensures named { IfOk result (λ loaded. HasNames (D.lists dir.now) (D.looks dir.now) loaded.0 loaded.1) }
+    ensures unread { IfErr result (IsUnread (D.lists dir.now) (D.looks dir.now) Unread (D.refuses dir.now)) }
+{
+    match load_names(rt, dir, alloc, 1) {
+        Ok(loaded) => Ok(loaded),
+        Err(fault) => Err(unread(cause, fault)),
+    }
+}
+
+/// Reads the names of a directory with all that is below it, and no file, and writes the candidates for a target's rule,
+/// as `whichdo_bundle` does. Answers whether one of them is a file, and how many names were passed over.
 pub fn whichdo_dir<H: Threads + Sync, D: WorkDir + Sync, W: ByteOut, O>(
     host: &Host<'_, H, O>,
     dir: &D,
@@ -366,14 +383,14 @@ pub fn whichdo_dir<H: Threads + Sync, D: WorkDir + Sync, W: ByteOut, O>(
 where
     D::Draft: Send,
     requires writer { W.has_failed writer.old ≡ false }
-    ensures list { IfOk result (λ run. ListsTree (D.lists dir.now) (D.leads dir.now)
+    ensures list { IfOk result (λ run. ListsTree (D.lists dir.now) (D.looks dir.now)
         target.now (W.held writer.old) (W.held writer.new) run.0 run.1) }
-    ensures fault { IfErr result (FallsInList (D.lists dir.now) (D.leads dir.now) (D.refuses dir.now)) }
+    ensures fault { IfErr result (FallsInList (D.lists dir.now) (D.looks dir.now) (D.refuses dir.now)) }
     ensures untouched { IsUnwritten result writer.old writer.new }
     ensures device { IsErrOf result RunDirFault.Device ↔ (W.has_failed writer.new ≡ true) }
 {
-    let (tree, passed) = load(host.rt, host.alloc(), dir, 1, cause)?;
-    let found = search(host.alloc(), &tree, target)?;
+    let (names, passed) = load_unread(host.rt, host.alloc(), dir, cause)?;
+    let found = search(host.alloc(), &names, target)?;
     let text = text_of_search(host.alloc(), &found)?;
     write_all(writer, &text)?;
     Ok((found.chosen.is_some(), passed))

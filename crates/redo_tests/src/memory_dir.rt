@@ -110,7 +110,9 @@ fn listed(alloc: Global, path: &Path) -> Result<Option<String>, AllocError> {
 impl WorkDir for MemoryDir {
     ghost lists = { λ _ _ _. Unit {0} };
 
-    ghost leads = { λ _ _ _. Unit {0} };
+    ghost looks = { λ _ _ _. Unit {0} };
+
+    ghost reads = { λ _ _ _ _. Unit {0} };
 
     ghost refuses = { λ _ _ _. Unit {0} };
 
@@ -137,9 +139,21 @@ impl WorkDir for MemoryDir {
             if self.is_same(other, path) {
                 return match node {
                     Node::Directory => Ok(Seen::Directory),
-                    Node::File(content) => Ok(Seen::File(copied(alloc, content)?)),
+                    Node::File(content) => Ok(Seen::File(content.bytes().len() as u64)),
                     Node::Link => Ok(Seen::Other),
                 };
+            }
+        }
+        Err(io::Error::from(ErrorKind::NotFound))
+    }
+
+    fn read(&self, alloc: Global, path: &Path, _size: u64) -> io::Result<Vec<u8>> {
+        self.count_call()?;
+        for (other, node) in &self.nodes {
+            if self.is_same(other, path) {
+                if let Node::File(content) = node {
+                    return Ok(copied(alloc, content)?);
+                }
             }
         }
         Err(io::Error::from(ErrorKind::NotFound))

@@ -118,18 +118,18 @@ fn each_call_that_fails_is_told(rt: HostRuntime) -> Result<(), Fail> {
     let alloc = rt.alloc();
     let mut whole = small_dir(alloc)?;
     let _all = ran(&mut host_of(&rt), &mut whole, "below/b a", 1)?;
-    // Two directories are listed, six names and the places of book and journal looked at; the journal is written, two
-    // files are written and named, and the journal becomes the book.
-    assert_eq!(rt; whole.calls(), 16);
-    for call in 1..17u64 {
+    // Two directories are listed, six names and the places of book and journal looked at, and four files read. The
+    // journal is written, two files are written and named, and the journal becomes the book.
+    assert_eq!(rt; whole.calls(), 20);
+    for call in 1..21u64 {
         let mut dir = small_dir(alloc)?;
         dir.fails_at = call;
         let outcome = ran(&mut host_of(&rt), &mut dir, "below/b a", 1)?;
         let (expected, done) = match call {
-            1..=10 => (RunDirFault::Load, 0),
-            11 => (RunDirFault::Journal, 0),
-            12 | 13 => (RunDirFault::Store(0), 1),
-            14 | 15 => (RunDirFault::Store(1), 2),
+            1..=14 => (RunDirFault::Load, 0),
+            15 => (RunDirFault::Journal, 0),
+            16 | 17 => (RunDirFault::Store(0), 1),
+            18 | 19 => (RunDirFault::Store(1), 2),
             _ => (RunDirFault::Store(2), 3),
         };
         assert_eq!(rt; outcome, Err(expected));

@@ -12,8 +12,11 @@ use Rattle.redo_tree.specs.Tree.{Node, Directory, File, Tree, added, grown, node
 use Rattle.redo_dir.specs.declared.faults.LoadFault.{LoadFault}
 use Rattle.redo_dir.specs.declared.faults.LoadFault.TheVariants.{Device, Memory}
 use Rattle.redo_dir.specs.declared.loading.Loading.{Loading}
+use Rattle.redo_dir.specs.declared.looking.Contents.{Contents}
+use Rattle.redo_dir.specs.declared.looking.Contents.TheVariants as contents
 use Rattle.redo_dir.specs.declared.looking.Name.{Name}
-use Rattle.redo_dir.specs.Loaded.{ComesTo, HasTextPaths, Listing, MayStand, directories, entries_of, load_fault, names_of}
+use Rattle.redo_dir.specs.Loaded.{ComesTo, HasTextPaths, Listing, MayStand, Reads, Unread, directories, entries_of, load_fault}
+use Rattle.redo_dir.specs.Loaded.{names_of}
 
 -- what was read so far: the tree, the directories that are still to be listed, the paths of the names that are still to
 -- be entered, and how many names were passed over
@@ -33,6 +36,11 @@ progress l = record { tree = l.tree; waiting = l.waiting.items; noted = paths_of
 -- names that were looked at stand where they stood
 abbrev pub KeepsPaths : List Name → List Name → Type 0
 KeepsPaths old new = paths_of new ≡ paths_of old
+
+-- where the bytes of files come from: they are read, or each stays empty
+abbrev pub reads_by : Contents → Reads → Reads
+reads_by contents.Read reads = reads
+reads_by contents.Unread reads = Unread
 
 -- what was found at a path, so far as a tree takes it in
 abbrev pub node_found : Option Entry → Option Node

@@ -2,8 +2,8 @@
 use Rattle.std.specs.Prelude.{◌≡◌, ℕ, List, Option}
 use Rattle.std.specs.Arc.{arc_value}
 use Rattle.std.specs.declared.io.ErrorKind.{ErrorKind}
-use Rattle.redo_tree.specs.Tree.{Node, Tree}
-use Rattle.redo_dir.specs.Loaded.{IsLoaded}
+use Rattle.redo_tree.specs.Tree.{Tree}
+use Rattle.redo_dir.specs.Loaded.{IsLoaded, Leads, Looks, Reads}
 use Rattle.redo_mend.specs.Mended.{MendsTo}
 use Rattle.redo_rules.specs.Results.{IsOfTree}
 use Rattle.redo_run.specs.Directories.{IsBuilt, IsUnreadable, Stays, to_build}
@@ -16,9 +16,9 @@ use Rattle.redo_run.specs.declared.dir_fault.RunDirFault.TheVariants.{Load, Book
 
 -- a tree was loaded, mended and built without what is to be taken back, and what is planned are the steps by which that is
 -- stored
-pub record IsForeseen (lists : List ℕ → List (Option (List ℕ)) → Type 0) (leads : List ℕ → Option Node → Type 0) (options : Options) (f : Foreseen) : Type 0 where
+pub record IsForeseen (lists : List ℕ → List (Option (List ℕ)) → Type 0) (looks : Looks) (reads : Reads) (options : Options) (f : Foreseen) : Type 0 where
   pub loaded : Tree
-  pub is_loaded : IsLoaded lists leads loaded f.run.passed
+  pub is_loaded : IsLoaded lists (Leads looks reads) loaded f.run.passed
   pub mends : MendsTo loaded (arc_value f.mended)
   pub past : IsOfTree (to_build options (arc_value f.mended)) f.run.past
   pub built : IsBuilt (to_build options (arc_value f.mended)) options f.run.report f.run.book f.run.exit
@@ -27,9 +27,9 @@ pub record IsForeseen (lists : List ℕ → List (Option (List ℕ)) → Type 0)
       storing (arc_value f.mended) (to_store (arc_value f.mended) f.run.report.files.items f.run.book)
 
 -- why nothing is foreseen: the directory can't be read, its book is refused, or it needs too many targets
-abbrev pub IsUnforeseen : (List ℕ → List (Option (List ℕ)) → Type 0) → (List ℕ → Option Node → Type 0) → (List ℕ → ErrorKind → Type 0) → Options → RunDirFault → Type 0
-IsUnforeseen lists leads refuses options Load = IsUnreadable lists leads refuses
-IsUnforeseen lists leads refuses options (Book n) = Stays lists leads options (Book n)
-IsUnforeseen lists leads refuses options TooMany = Stays lists leads options TooMany
-IsUnforeseen lists leads refuses options Memory = Unit {0}
-IsUnforeseen lists leads refuses options _ = ⊥
+abbrev pub IsUnforeseen : (List ℕ → List (Option (List ℕ)) → Type 0) → Looks → Reads → (List ℕ → ErrorKind → Type 0) → Options → RunDirFault → Type 0
+IsUnforeseen lists looks reads refuses options Load = IsUnreadable lists looks reads refuses
+IsUnforeseen lists looks reads refuses options (Book n) = Stays lists looks reads options (Book n)
+IsUnforeseen lists looks reads refuses options TooMany = Stays lists looks reads options TooMany
+IsUnforeseen lists looks reads refuses options Memory = Unit {0}
+IsUnforeseen lists looks reads refuses options _ = ⊥

@@ -1,13 +1,15 @@
 -- Places of a directory in which a run wants a file or nothing.
-use Rattle.std.specs.Prelude.{◌≡◌, ◌⊎◌, ℕ, List, Option, None}
+use Rattle.std.specs.Prelude.{◌≡◌, ◌⊎◌, ℕ, List, None}
 use Rattle.std.specs.declared.io.ErrorKind.{ErrorKind}
-use Rattle.redo_tree.specs.Tree.{Node, Tree, file_at}
+use Rattle.redo_tree.specs.Tree.{Tree, file_at}
+use Rattle.redo_dir.specs.Loaded.{Looks}
+use Rattle.redo_dir.specs.declared.work_dir.Seen.{Seen}
 use Rattle.redo_run.specs.declared.dir_fault.RunDirFault.{RunDirFault}
 use Rattle.redo_run.specs.declared.dir_fault.RunDirFault.TheVariants.{Load, Memory}
 
 -- a directory is refused for what stands at this path, or for a call that was refused
-abbrev pub HasNoPlace : (List ℕ → Option Node → Type 0) → (List ℕ → ErrorKind → Type 0) → Tree → List ℕ → RunDirFault → Type 0
-HasNoPlace leads refuses tree place Load =
-    ((path : List ℕ) × (kind : ErrorKind) × refuses path kind) ⊎ ((file_at tree place ≡ None) × (node : Option Node) × leads place node)
-HasNoPlace leads refuses tree place Memory = Unit {0}
-HasNoPlace leads refuses tree place _ = ⊥
+abbrev pub HasNoPlace : Looks → (List ℕ → ErrorKind → Type 0) → Tree → List ℕ → RunDirFault → Type 0
+HasNoPlace looks refuses tree place Load =
+    ((path : List ℕ) × (kind : ErrorKind) × refuses path kind) ⊎ ((file_at tree place ≡ None) × (seen : Seen) × looks place seen)
+HasNoPlace looks refuses tree place Memory = Unit {0}
+HasNoPlace looks refuses tree place _ = ⊥

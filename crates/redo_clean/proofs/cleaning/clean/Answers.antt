@@ -1,6 +1,7 @@
 use Rattle.std.proofs.Common.{◌≡◌, ◌++◌, ◌∷◌, [], List, Err, length, map, refl, rules, subst}
 use Rattle.std.specs.Prelude.{IfErr}
 use Rattle.redo_which.specs.Candidates.{book_path}
+use Rattle.redo_dir.specs.Loaded.{Leads}
 use Rattle.redo_clean.specs.Cleaned.{AnsweredWhile, MeetFates, IsBrokenOff, removals}
 use Rattle.redo_clean.specs.Planned.{File}
 use Rattle.redo_clean.specs.inside.Files.{IsFaultAt}
@@ -10,7 +11,7 @@ use Rattle.redo_clean.proofs.cleaning.clean.Goals as goal
 pub returns-in_err-clear_left-clause-fault : goal.returns-in_err-clear_left-clause-fault
 returns-in_err-clear_left-clause-fault g c =
     let done = g.D.WorkDir.done in
-    let leads = AnsweredWhile done g.D.WorkDir.leads in
+    let leads = AnsweredWhile done (λ d. Leads (g.D.WorkDir.looks d) (g.D.WorkDir.reads d)) in
     let refuses = AnsweredWhile done g.D.WorkDir.refuses in
     let plan = c.args.plan.now in
     let before = done c.args.dir.now in
@@ -25,7 +26,7 @@ returns-in_err-clear_left-clause-fault g c =
 pub returns-in_err-clean_files-clause-fault : goal.returns-in_err-clean_files-clause-fault
 returns-in_err-clean_files-clause-fault g c =
     let done = g.D.WorkDir.done in
-    let leads = AnsweredWhile done g.D.WorkDir.leads in
+    let leads = AnsweredWhile done (λ d. Leads (g.D.WorkDir.looks d) (g.D.WorkDir.reads d)) in
     let refuses = AnsweredWhile done g.D.WorkDir.refuses in
     let plan = c.args.plan.now in
     let before = done c.args.dir.now in
@@ -44,7 +45,7 @@ returns-in_err-clean_files-clause-fault g c =
 pub returns-in_err-remove_book-clause-fault : goal.returns-in_err-remove_book-clause-fault
 returns-in_err-remove_book-clause-fault g c =
     let done = g.D.WorkDir.done in
-    let leads = AnsweredWhile done g.D.WorkDir.leads in
+    let leads = AnsweredWhile done (λ d. Leads (g.D.WorkDir.looks d) (g.D.WorkDir.reads d)) in
     let refuses = AnsweredWhile done g.D.WorkDir.refuses in
     let plan = c.args.plan.now in
     let before = done c.args.dir.now in

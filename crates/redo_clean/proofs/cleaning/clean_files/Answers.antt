@@ -1,6 +1,7 @@
 use Rattle.std.proofs.Common.{◌≡◌, ◌∙◌, ◌+◌, ◌++◌, ◌∷◌, [], List, Some, ap, append_assoc, append-nil, length, length-append, map, refl, subst, sym}
 use Rattle.std.proofs.lemmas.Option.{slice_get_read}
 use Rattle.std.specs.Prelude.{slice_get}
+use Rattle.redo_dir.specs.Loaded.{Leads}
 use Rattle.redo_clean.specs.Cleaned.{AnsweredWhile, MeetFates, removal, removals}
 use Rattle.redo_clean.specs.Planned.{File}
 use Rattle.redo_clean.proofs.CleanLemmas.{met-more, met-none, fate-while, fault-at, path-at, removals-more, removals-none}
@@ -9,7 +10,7 @@ use Rattle.redo_clean.proofs.cleaning.clean_files.Goals as goal
 pub loop-path-init : goal.loop-path-init
 loop-path-init g c =
     let done = g.D.WorkDir.done in
-    let leads = AnsweredWhile done g.D.WorkDir.leads in
+    let leads = AnsweredWhile done (λ d. Leads (g.D.WorkDir.looks d) (g.D.WorkDir.reads d)) in
     let refuses = AnsweredWhile done g.D.WorkDir.refuses in
     let log = done c.args.dir.now in
     let files = c.args.files.now in
@@ -36,7 +37,7 @@ returns-in-Err-clause-fault g c =
 pub loop-path-preserved : goal.loop-path-preserved
 loop-path-preserved g c =
     let done = g.D.WorkDir.done in
-    let leads = AnsweredWhile done g.D.WorkDir.leads in
+    let leads = AnsweredWhile done (λ d. Leads (g.D.WorkDir.looks d) (g.D.WorkDir.reads d)) in
     let refuses = AnsweredWhile done g.D.WorkDir.refuses in
     let before = c.loop-path.invariant in
     let log = done c.args.dir.now in
@@ -47,7 +48,7 @@ loop-path-preserved g c =
     let fate = c.in-Ok.fate in
     let there = slice_get_read files (length files) i file refl c.loop-path-test.true c.loop-path-item.is in
     let at = subst (λ n. slice_get files n ≡ Some file) (sym before.count) there in
-    let here = fate-while done g.D.WorkDir.leads g.D.WorkDir.refuses c.loop-path.dir (log ++ removals files fates) file fate before.removed c.in-Ok.ensures.fate in
+    let here = fate-while done (λ d. Leads (g.D.WorkDir.looks d) (g.D.WorkDir.reads d)) g.D.WorkDir.refuses c.loop-path.dir (log ++ removals files fates) file fate before.removed c.in-Ok.ensures.fate in
     let pushed : c.push_reserved.new.self.items ≡ fates ++ fate ∷ [] = c.push_reserved.ensures.items ∙ ap (λ xs. xs ++ fate ∷ []) c.in_ok-reserve.ensures.items in
     let more = ap (removals files) pushed ∙ removals-more files fates file fate at in
     record {

@@ -9,13 +9,14 @@ use Rattle.redo_run.proofs.directory.preview_dir.Goals as goal
 pub returns-in_err-write_report-clause-fault : goal.returns-in_err-write_report-clause-fault
 returns-in_err-write_report-clause-fault g c =
     let lists = g.D.WorkDir.lists c.args.dir.now in
-    let leads = g.D.WorkDir.leads c.args.dir.now in
+    let looks = g.D.WorkDir.looks c.args.dir.now in
+    let reads = g.D.WorkDir.reads c.args.dir.now in
     let refuses = g.D.WorkDir.refuses c.args.dir.now in
     let options = c.args.options.now in
     let run = c.in_ok-preview.field-0.run in
     let foreseen = c.in_ok-preview.ensures.foreseen in
     let result : Err Device ≡ c.from_residual-in_err-write_report.result = search rules in
-    subst (λ r. IfErr r (FallsInPreview lists leads refuses options)) result (record {
+    subst (λ r. IfErr r (FallsInPreview lists looks reads refuses options)) result (record {
       loaded = foreseen.loaded;
       passed = run.passed;
       is_loaded = foreseen.is_loaded;
