@@ -24,7 +24,7 @@ use Rattle.redo_record.proofs.EntryLemmas.{bytes_eq-refl, same_kind-refl}
 use Rattle.redo_record.proofs.Public.{entered_operand, one_entered, search_enters, whole_first, whole_second}
 use Rattle.redo_build.specs.Rules.{Ask, asked_under}
 use Rattle.redo_step.specs.Agreeing as script
-use Rattle.redo_step.specs.Agreeing.{held, held_in, IsFree, IsFollowed}
+use Rattle.redo_step.specs.Agreeing.{held_in, IsFree, IsFollowed}
 use Rattle.redo_step.specs.Limits.{LimitsView}
 use Rattle.redo_step.specs.Results.{by_script}
 use Rattle.redo_step.specs.Setting.{Setting, setting_by, setting_of}

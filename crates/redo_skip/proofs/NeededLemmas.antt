@@ -2,7 +2,7 @@
 use Rattle.std.proofs.Common.{◌≡◌, ℕ, ◌≤◌, false, inl, inr, List, length, Option, Some, None, refl, sym, subst, arith}
 use Rattle.redo_names.proofs.ListLemmas.{within-length}
 use Rattle.redo_record.specs.declared.outcome.Outcome.{Outcome}
-use Rattle.redo_record.specs.Paths.{IsAmong, is_among}
+use Rattle.redo_record.specs.Paths.{IsAmong}
 use Rattle.redo_record.specs.Progress.{Progress, operands}
 use Rattle.redo_build.specs.Rules.{Ask, AreLawful, Rules, asked_under}
 use Rattle.redo_build.specs.Outcomes.{outcome_at, needed_at, IsSettled}

@@ -1,30 +1,23 @@
 -- Of an honest book, whatever else is requested.
-use Rattle.std.proofs.Common.{◌≡◌, ℕ, zero, suc, ◌≤◌, true, false, inl, inr, List, [], length}
-use Rattle.std.proofs.Common.{Option, Some, None, sym, ap, ◌∙◌}
+use Rattle.std.proofs.Common.{◌≡◌, ℕ, suc, ◌≤◌, false, inr, List, [], length}
+use Rattle.std.proofs.Common.{Some, None, sym, ap, ◌∙◌}
 use Rattle.redo_record.specs.declared.outcome.Outcome.{Outcome}
 use Rattle.redo_record.specs.declared.outcome.Outcome.TheVariants.{Built}
 use Rattle.redo_record.specs.Paths.{IsAmong}
-use Rattle.redo_book.specs.declared.book.BookEntry.{BookEntry}
 use Rattle.redo_build.specs.Rules.{Ask, AreLawful}
 use Rattle.redo_build.specs.Outcomes.{outcome_at, needed_at}
-use Rattle.redo_build.proofs.DepthLemmas.{cases_Option, deeper_once, outcome_at-step}
 use Rattle.redo_skip.specs.Sources.{Sources, without_book}
-use Rattle.redo_skip.specs.Checks.{Standing, stands, lacks, falls, finding, Check, Checks, progress_checked}
+use Rattle.redo_skip.specs.Checks.{Check, Checks}
 use Rattle.redo_skip.specs.Checks.{with_book, AreChecks}
 use Rattle.redo_skip.specs.Truth.{AreHonest}
 use Rattle.redo_skip.specs.NewBook.{IsGood, LastRun, checks_of, AreHonestRecords}
-use Rattle.redo_skip.proofs.CheckLemmas.{cases_Standing}
-use Rattle.redo_skip.proofs.AskedLemmas.{progress-lacks}
-use Rattle.redo_skip.proofs.LawfulLemmas.{with_book-lawful}
 use Rattle.redo_skip.proofs.NeededLemmas.{check-needed, plain-target}
 use Rattle.redo_skip.proofs.NewBookLemmas.{are-checks, honest-checks}
 use Rattle.redo_skip.proofs.SkipLemmas.{sound_at, outcomes-agree}
-use Rattle.redo_why.specs.Verdicts.{Verdict, Keeps, Begins, Verdicts, verdict, verdict_checked, verdict_at}
+use Rattle.redo_why.specs.Verdicts.{verdict, verdict_checked, verdict_at}
 use Rattle.redo_why.specs.OutOfDate.{first_drop, checks_left}
-use Rattle.redo_why.specs.Reasons.{first_fallen}
 use Rattle.redo_why.proofs.MarkLemmas.{FitsAt, none-lacks}
 use Rattle.redo_why.proofs.KeptLemmas.{Tells, kept-at, lacks-none, lost-at, ring-at, tells}
-use Rattle.redo_skip.proofs.CheckLemmas.{begins_checked, is_fallen}
 
 module _ (s : Sources) (last : LastRun) (request : List (List ℕ)) (limit : ℕ) (lawful : AreLawful (without_book s))
     (good : IsGood s) (few : length (needed_at (without_book s) request limit) ≤ limit)

@@ -12,7 +12,7 @@ use Rattle.redo_build.specs.Outcomes.{outcome_at, needed_at, IsSettled}
 use Rattle.redo_build.proofs.DepthLemmas.{cases_Option, deeper, deeper_once, outcome_at-step, outcome_at-zero, reached-target, settled}
 use Rattle.redo_skip.specs.Sources.{Sources, without_book}
 use Rattle.redo_skip.specs.Checks.{file_told, told, Standing, stands, lacks, falls, finding, Check, Checks}
-use Rattle.redo_skip.specs.Checks.{progress_checked, progress_found, with_book, AreChecks}
+use Rattle.redo_skip.specs.Checks.{progress_checked, with_book, AreChecks}
 use Rattle.redo_skip.specs.NewBook.{IsGood}
 use Rattle.redo_skip.proofs.CheckLemmas.{cases_Standing, finding-target}
 use Rattle.redo_skip.proofs.AskedLemmas.{asked-check, progress-lacks, progress-stands}

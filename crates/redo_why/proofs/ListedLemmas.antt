@@ -1,5 +1,5 @@
 -- What is listed, by the record of a path and its verdict.
-use Rattle.std.proofs.Common.{◌≡◌, ℕ, Bool, true, false, ◌⊎◌, inl, inr, List}
+use Rattle.std.proofs.Common.{◌≡◌, ℕ, Bool, true, false, inl, inr, List}
 use Rattle.std.proofs.Common.{Option, Some, None, refl, sym, ap, subst, ◌∙◌}
 use Rattle.std.specs.Prelude.{option_and_then}
 use Rattle.std.proofs.lemmas.Bool.{cases_Bool}
@@ -9,7 +9,7 @@ use Rattle.redo_book.specs.Book.{Record, record_at}
 use Rattle.redo_book.specs.Intact.{is_intact}
 use Rattle.redo_skip.specs.Sources.{Sources}
 use Rattle.redo_skip.specs.NewBook.{LastRun, check_by, checks_of}
-use Rattle.redo_why.specs.Reasons.{Reason, Altered, Fallen}
+use Rattle.redo_why.specs.Reasons.{Altered, Fallen}
 use Rattle.redo_why.specs.Verdicts.{Verdict, Keeps, Begins, Either}
 use Rattle.redo_why.specs.OutOfDate.{Stale, Maybe, Ring, Lost, word_by, word_intact, word_ruled, word_recorded}
 use Rattle.redo_why.specs.OutOfDate.{Word, listed, first_drop, first_unsure, checks_left, verdict_left}

@@ -15,11 +15,11 @@ use Rattle.redo_skip.specs.Checks.{Check, Checks, asks, AreChecks}
 use Rattle.redo_skip.specs.NewBook.{LastRun, IsGood, check_by, checks_of}
 use Rattle.redo_skip.proofs.CheckLemmas.{not-or}
 use Rattle.redo_skip.proofs.NewBookLemmas.{are-checks, honest-checks, found-target}
-use Rattle.redo_why.specs.Reasons.{Reason, Altered, Fallen, first_fallen, reason_of}
-use Rattle.redo_why.specs.Verdicts.{Verdict, Keeps, Begins, Either, verdict, verdict_checked, verdict_at}
-use Rattle.redo_why.specs.OutOfDate.{first_drop, first_unsure, Word, Stale, Maybe, Ring, Lost, word_by, checks_left}
+use Rattle.redo_why.specs.Reasons.{Reason, Altered, Fallen, reason_of}
+use Rattle.redo_why.specs.Verdicts.{Verdict, Keeps, Begins, verdict, verdict_checked, verdict_at}
+use Rattle.redo_why.specs.OutOfDate.{first_drop, Word, Stale, Maybe, Ring, checks_left}
 use Rattle.redo_why.specs.OutOfDate.{verdict_left, listed, named, IsOpen, may_begin}
-use Rattle.redo_why.specs.Runs.{rules_with, end_with, IsNeededBy, NeedsAlone, NeedsHonest, Needs, IsKept, IsBegunBy}
+use Rattle.redo_why.specs.Runs.{rules_with, end_with, IsNeededBy, NeedsAlone, Needs, IsKept, IsBegunBy}
 use Rattle.redo_why.specs.Runs.{IsRecordInCheck, verdict_with}
 use Rattle.redo_why.proofs.DeepLemmas.{alone-same, alone-here, alone-alike, book-still}
 use Rattle.redo_skip.proofs.NeededLemmas.{needed-plain, plain-target}
@@ -28,8 +28,8 @@ use Rattle.redo_why.proofs.KeptLemmas.{Tells, needed-target, tells-own}
 use Rattle.redo_why.proofs.ListedLemmas.{check-intact, check-altered, Told, told_lost, told_altered, told_checked, told}
 use Rattle.redo_why.proofs.ListedLemmas.{says_kept, says_ring, says_maybe, says_stale}
 use Rattle.redo_why.proofs.MarkLemmas.{drop-same, begins-drop, either-unsure, IsUnsureAt, IsOpenVerdict}
-use Rattle.redo_why.proofs.ReasonLemmas.{first-falls-all, reason-altered, reason-recorded}
-use Rattle.redo_skip.proofs.CheckLemmas.{begins_checked, is_fallen}
+use Rattle.redo_why.proofs.ReasonLemmas.{reason-altered, reason-recorded}
+use Rattle.redo_skip.proofs.CheckLemmas.{begins_checked}
 
 module _ (s : Sources) (last : LastRun) (request : List (List ℕ)) (limit : ℕ) (lawful : AreLawful (without_book s))
     (good : IsGood s) where
