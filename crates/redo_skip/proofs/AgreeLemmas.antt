@@ -92,10 +92,10 @@ module _ (s : Sources) (p : List ℕ) (c : Check) (final a : Ask) (ruled : s.has
     (honest : IsHonest s p c final)
     (sound : (q : List ℕ) (o : Outcome) → IsAmong (asked_under (without_book s) p final) q → a q ≡ Some o →
     final q ≡ Some o) where
-  then : Sources
+  abbrev then : Sources
   then = honest.truth.sources
 
-  earlier : Ask
+  abbrev earlier : Ask
   earlier = honest.truth.ask
 
   -- what is asked for has in the end the file that is known here
@@ -117,7 +117,6 @@ module _ (s : Sources) (p : List ℕ) (c : Check) (final a : Ask) (ruled : s.has
       (is_asked s x ≡ true → IsAmong (asked_under (without_book s) p final) x) →
       HasState then earlier (Change state x) → standing s a (Change state x) ≡ stands →
       Agrees then earlier s final kinds.Change x
-  unfolding then earlier
   agree-change state x asked recorded t =
       let now = stands-file s state x a t in
       let there : known_file s final x ≡ Some now.0 = file-kept x now.0 asked now.1 in
@@ -129,7 +128,6 @@ module _ (s : Sources) (p : List ℕ) (c : Check) (final a : Ask) (ruled : s.has
       shown_all c.entries ≡ ds ++ shown e ∷ shown_all es → AllAgree then earlier s final ds →
       HasState then earlier e → ((q : List ℕ) → IsAmong (asks s e) q → IsAmong (asked_under (without_book s) p final) q) ×
       (standing s a e ≡ stands → AllAgree then earlier s final (shown e ∷ []))
-  unfolding then earlier
   agree-entry ds (Change state x) es is all has =
       let asked : is_asked s x ≡ true → IsAmong (asked_under (without_book s) p final) x =
       λ t. honest.alike.next honest.truth.witness.file ds (shown_all es) x
@@ -148,7 +146,6 @@ module _ (s : Sources) (p : List ℕ) (c : Check) (final a : Ask) (ruled : s.has
       AllByRecursion (HasState then earlier) es →
       ((q : List ℕ) → IsAmong (finding s a es).asked q → IsAmong (asked_under (without_book s) p final) q) ×
       ((finding s a es).standing ≡ stands → AllAgree then earlier s final (shown_all es))
-  unfolding then earlier
   agreed ds [] e all states = (λ q m. absurd m, λ _. tt)
   agreed ds (x ∷ es) e all states =
       let this = agree-entry ds x es e all states.0 in
@@ -168,12 +165,10 @@ module _ (s : Sources) (p : List ℕ) (c : Check) (final a : Ask) (ruled : s.has
   -- what the check asks for is asked for in the end
   pub check-asked : (q : List ℕ) → IsAmong (finding s a c.entries).asked q →
       IsAmong (asked_under (without_book s) p final) q
-  unfolding then earlier
   check-asked q m = (agreed [] c.entries refl tt honest.truth.witness.states).0 q m
 
   -- where all entries stand, it is built in the end as it was
   pub check-kept : (finding s a c.entries).standing ≡ stands → s.progress p final ≡ built c.file (shown_all c.entries)
-  unfolding then earlier
   check-kept t =
       honest.alike.whole honest.truth.witness.file (shown_all c.entries)
       honest.truth.witness.ruled ruled honest.truth.witness.came
