@@ -1,5 +1,5 @@
 -- The book that a build with a book leaves is true of trees where the last one was.
-use Rattle.std.proofs.Common.{◌≡◌, ℕ, zero, suc, Bool, true, false, not, ◌||◌, cond, inl, inr, Option, Some, None}
+use Rattle.std.proofs.Common.{◌≡◌, ℕ, Bool, true, false, not, ◌||◌, cond, inl, inr, Option, Some, None}
 use Rattle.std.proofs.Common.{List, [], ◌∷◌, is_some, map, refl, sym, ap, ◌∙◌, subst}
 use Rattle.std.specs.Prelude.{All, Contains, option_and_then, unwrap_or}
 use Rattle.std.specs.Arc.{arc_value}
@@ -29,19 +29,19 @@ use Rattle.redo_book.specs.declared.book.BookEntry.TheVariants.{Change, Create, 
 use Rattle.redo_book.specs.Book.{Record, record_at}
 use Rattle.redo_build.specs.Rules.{Ask, Rules, AreLawful, operands}
 use Rattle.redo_build.specs.Outcomes.{final_outcome, needed_at, outcome_at, record_of}
-use Rattle.redo_build.proofs.DepthLemmas.{cases_Option, outcome_at-step, outcome_at-zero, settled}
+use Rattle.redo_build.proofs.DepthLemmas.{settled}
 use Rattle.redo_book.specs.Noted.{entry_as, is_notable, new_record, noted}
-use Rattle.redo_skip.specs.Checks.{Check, Checks, Finding, stands, built, finding, is_asked, known_file}
+use Rattle.redo_skip.specs.Checks.{Check, Checks, Finding, asks, shown, stands, built, finding, is_asked, known_file}
 use Rattle.redo_skip.specs.Checks.{progress_checked, record_checked, standing, told}
 use Rattle.redo_skip.specs.NewBook as skip
 use Rattle.redo_skip.specs.NewBook.{CanBeNoted}
 use Rattle.redo_skip.specs.Sources.{File, Sources}
 use Rattle.redo_skip.specs.Truth.{IsWitness, shown_all}
 use Rattle.redo_skip.proofs.AgreeLemmas.{finding-seen, stands-file}
-use Rattle.redo_skip.proofs.AskedLemmas.{asked-check, asked-script, progress-falls, progress-lacks}
-use Rattle.redo_skip.proofs.CheckLemmas.{among-asks, cases_Standing, finding-target, found-first, found-later, found-stands}
+use Rattle.redo_skip.proofs.AskedLemmas.{asked-check, asked-script, progress-ended}
+use Rattle.redo_skip.proofs.CheckLemmas.{among-asks, finding-target, found-first, found-later, found-stands}
 use Rattle.redo_skip.proofs.CheckLemmas.{known-fixed}
-use Rattle.redo_skip.proofs.NewBookLemmas.{all-here, are-checks}
+use Rattle.redo_skip.proofs.NewBookLemmas.{all-here, built_eta, sane}
 use Rattle.redo_report.specs.Reports.{IsReport, deps_of}
 use Rattle.redo_report.specs.declared.report.Report.{Report}
 use Rattle.redo_report.specs.declared.report.Row.{Row}
@@ -205,29 +205,6 @@ module _ (given : GivenView) (is_tree : IsTree given.past.sources) (report : Rep
     notable ds (λ q h made. reached q (entered-later d ds kinds.Change q h) made) line.1 can.1,
   )
 
-  unchecked : (q : Path) → s.has_rule q ≡ false → checks_for given q ≡ None
-  unchecked q unruled = elim (cases_Option (checks_for given q)) [
-    | inl none ↦ none
-    | inr some ↦ absurd (
-        both_ways _ unruled ((are-checks s (last_run_of given.past) request).ruled q some.0 some.1))
-  ]
-
-  -- no build comes to a .do file that isn't there
-  sane-at : (n : ℕ) (q : Path) → is_do_file q ≡ true → r.is_source q ≡ false → told (outcome_at r n q) ≡ None
-  sane-at zero q named made = ap told (outcome_at-zero r lawful q made)
-  sane-at (suc n) q named made =
-      let good = trees-good tree given.limits in
-      let a : Ask = outcome_at r n in
-      ap told (outcome_at-step r lawful n q made)
-      ∙ ap (λ (o : Option Check). told (progress_checked s q o a).outcome) (unchecked q (good.scripts q named))
-      ∙ elim (cases_Option (told (s.progress q a).outcome)) [
-        | inl none ↦ none
-        | inr some ↦ absurd (both_ways _ (good.scripts q named) (good.ruled q a some.0 made some.1))
-      ]
-
-  built_eta : (x : Progress) (file : File) → x.outcome ≡ Some (outcomes.Built file) → x ≡ built file x.deps
-  built_eta x file e = ap (λ (o : Option Outcome). record { outcome = o; deps = x.deps }) e
-
   -- of a needed target, what the build says of it at the limit
   reached : (p q : Path) (o : Option Check) → checks_for given p ≡ o → IsAmong (needed_at r request limit) p →
       IsAmong (operands r (progress_checked s p o end).deps) q → IsAmong (needed_at r request limit) q
@@ -241,7 +218,29 @@ module _ (given : GivenView) (is_tree : IsTree given.past.sources) (report : Rep
       AllByRecursion (λ d. is_notable d.kind d.path ≡ true) ds → AllByRecursion IsNotable ds
   script-notable p file ds came reach line =
       notable ds (λ q h out. reach q (entered_operand r.is_source ds q out h)) line
-      ((trees-good tree given.limits).notable p end file ds (λ q named made. sane-at limit q named made) came)
+      ((trees-good tree given.limits).notable p end file ds (λ q named made.
+      sane s (last_run_of given.past) request limit (plain_lawful given) (trees-good tree given.limits) is.within limit q
+      named made) came)
+
+  stood-entry : (e : BookEntry) → standing s end e ≡ stands →
+      ((q : Path) → IsAmong (asks s e) q → IsAmong (needed_at r request limit) q) →
+      is_notable (shown e).kind (shown e).path ≡ true → IsNotable (shown e)
+  stood-entry (Change state q) t reach line =
+      let has = stands-file s state q end t in
+      record {
+        reached = λ change made. elim (cases_Bool (is_asked s q)) [
+          | inl asked ↦ reach q (among-asks s state q asked)
+          | inr fixed ↦ absurd (
+              let none : known_file s end q ≡ None =
+              known-fixed s end q fixed ∙ ap (λ (v : Bool). cond v (Some (s.file q)) None) made in
+              let bad : ◌≡◌ {A = Option File} None (Some has.0) = sym none ∙ has.1 in cc)
+        ];
+        line = line;
+        can = (has.0, has.1);
+      }
+  stood-entry (Create q) t reach line =
+      record { reached = λ change. absurd (let bad : kinds.Create ≡ kinds.Change = change in cc); line = line; can = tt }
+  stood-entry Always t reach line = absurd cc
 
   -- and so can the entries of a record that all stand
   stood-notable : (es : List BookEntry) → (finding s end es).standing ≡ stands →
@@ -249,33 +248,12 @@ module _ (given : GivenView) (is_tree : IsTree given.past.sources) (report : Rep
       AllByRecursion (λ d. is_notable d.kind d.path ≡ true) (shown_all es) →
       AllByRecursion IsNotable (shown_all es)
   stood-notable [] t reach line = tt
-  stood-notable (Change state q ∷ es) t reach line =
-      let e : BookEntry = Change state q in
-      let both = found-stands s e (standing s end e) (finding s end es) t in
-      let has = stands-file s state q end both.0 in (
-        record {
-          reached = λ change made. elim (cases_Bool (is_asked s q)) [
-            | inl asked ↦
-                reach q (found-first s e (standing s end e) (finding s end es) q (among-asks s state q asked))
-            | inr fixed ↦ absurd (
-                let none : known_file s end q ≡ None =
-                known-fixed s end q fixed ∙ ap (λ (v : Bool). cond v (Some (s.file q)) None) made in
-                let bad : ◌≡◌ {A = Option File} None (Some has.0) = sym none ∙ has.1 in cc)
-          ];
-          line = line.0;
-          can = (has.0, has.1);
-        },
-        stood-notable es both.1
-            (λ x m. reach x (found-later s e (standing s end e) (finding s end es) x both.0 m)) line.1,
-      )
-  stood-notable (Create q ∷ es) t reach line =
-      let e : BookEntry = Create q in
+  stood-notable (e ∷ es) t reach line =
       let both = found-stands s e (standing s end e) (finding s end es) t in (
-        record { reached = λ change. absurd (let bad : kinds.Create ≡ kinds.Change = change in cc); line = line.0; can = tt },
+        stood-entry e both.0 (λ x m. reach x (found-first s e (standing s end e) (finding s end es) x m)) line.0,
         stood-notable es both.1
             (λ x m. reach x (found-later s e (standing s end e) (finding s end es) x both.0 m)) line.1,
       )
-  stood-notable (Always ∷ es) t reach line = absurd cc
 
   -- all that is in the record of a target that was built can be noted
   row-notable : (p : Path) (file : File) (o : Option Check) →
@@ -289,23 +267,20 @@ module _ (given : GivenView) (is_tree : IsTree given.past.sources) (report : Rep
       let found : Finding = finding s end c.entries in
       let own : Progress = s.progress p end in
       let L : List Dep → Type 0 = AllByRecursion (λ d. is_notable d.kind d.path ≡ true) in
-      elim (cases_Standing found.standing) [
-        | inl t ↦
+      elim (progress-ended c.file found own (outcomes.Built file) e) [
+        | inl stood ↦
+            let t = stood.0 in
             let seen = finding-seen s c.entries end t in
             let N : List Dep → Type 0 = AllByRecursion IsNotable in
             let line' : L (shown_all c.entries) = subst L seen (rw t at line) in
             let asks : (q : Path) → IsAmong found.asked q → IsAmong (needed_at r request limit) q =
             λ q m. reach q (asked-check r.is_source c.file found own q (finding-target s c.entries end q m) m) in
             rw t (subst N (sym seen) (stood-notable c.entries t asks line'))
-        | inr other ↦ elim other [
-          | inl l ↦ absurd (let bad : ◌≡◌ {A = Option Outcome} None (Some (outcomes.Built file)) =
-              sym (progress-lacks c.file found own l) ∙ e in cc)
-          | inr f ↦
-              let came = built_eta own file (sym (progress-falls c.file found own f) ∙ e) in
-              let asks : (q : Path) → IsAmong (operands r own.deps) q → IsAmong (needed_at r request limit) q =
-              λ q m. reach q (asked-script r.is_source c.file found own q f m) in
-              rw f (script-notable p file own.deps came asks (rw f at line))
-        ]
+        | inr begun ↦
+            let f = begun.0 in
+            let asks : (q : Path) → IsAmong (operands r own.deps) q → IsAmong (needed_at r request limit) q =
+            λ q m. reach q (asked-script r.is_source c.file found own q f m) in
+            rw f (script-notable p file own.deps (built_eta own file begun.1) asks (rw f at line))
       ]
 
   -- the record of a row is the one that the new book has of its target

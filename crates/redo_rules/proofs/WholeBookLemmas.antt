@@ -19,13 +19,13 @@ use Rattle.redo_book.specs.declared.book.BookEntry.TheVariants.{Change, Create, 
 use Rattle.redo_build.specs.Rules.{Ask, Rules, AreLawful}
 use Rattle.redo_build.specs.Outcomes.{final_outcome, outcome_at}
 use Rattle.redo_build.proofs.DepthLemmas.{cases_Option, deeper_once, ended_stays, outcome_at-step, outcome_at-zero}
-use Rattle.redo_skip.specs.Checks.{Check, Finding, stands, stands_if, finding, known_file}
+use Rattle.redo_skip.specs.Checks.{Check, Finding, shown, stands, stands_if, finding, known_file}
 use Rattle.redo_skip.specs.Checks.{progress_checked, record_checked, standing, told}
 use Rattle.redo_skip.specs.Sources.{File, Sources}
 use Rattle.redo_skip.specs.Truth.{shown_all}
 use Rattle.redo_skip.proofs.AgreeLemmas.{finding-seen, stands-file}
-use Rattle.redo_skip.proofs.AskedLemmas.{progress-falls, progress-lacks}
-use Rattle.redo_skip.proofs.CheckLemmas.{cases_Standing, found-stands}
+use Rattle.redo_skip.proofs.AskedLemmas.{progress-ended}
+use Rattle.redo_skip.proofs.CheckLemmas.{found-stands}
 use Rattle.redo_skip.proofs.NewBookLemmas.{are-checks}
 use Rattle.redo_report.specs.Reports.{IsReport, deps_of}
 use Rattle.redo_report.specs.declared.report.Report.{Report}
@@ -81,31 +81,30 @@ module _ (given : GivenView) (is_tree : IsTree given.past.sources) where
       ∙ ap (λ (o : Option Check). told (progress_checked s [] o a).outcome) top-unchecked
       ∙ ap (λ (f : Found). told (progress_in (world_of tree given.limits) [] f a).outcome) (top-found tree is_tree)
 
+  -- a book has a line for an entry that stands
+  line-stood : (a : Ask) (e : BookEntry) → told (a []) ≡ None → standing s a e ≡ stands →
+      is_notable (shown e).kind (shown e).path ≡ true
+  line-stood a (Change state []) nothing t = absurd (
+      let has = stands-file s state [] a t in
+      let none : known_file s a [] ≡ None =
+      known-nothing (file_at tree []) (is_do_file []) (a []) (top-source tree is_tree) nothing in
+      let bad : ◌≡◌ {A = Option File} None (Some has.0) = sym none ∙ has.1 in cc)
+  line-stood a (Create []) nothing t = absurd (
+      let taken : s.is_free [] ≡ false =
+      ap (λ (n : Option Node). is_none n && not (is_rule (found_of tree []))) is_tree.root in
+      stands-free (s.is_free []) taken t)
+  line-stood a Always nothing t = absurd cc
+  line-stood a (Change state (byte ∷ bytes)) nothing t = refl
+  line-stood a (Create (byte ∷ bytes)) nothing t = refl
+
   -- a book has a line for each entry of a record all of whose entries stand
   lines-stood : (a : Ask) (es : List BookEntry) → told (a []) ≡ None →
       (finding s a es).standing ≡ stands →
       AllByRecursion (λ d. is_notable d.kind d.path ≡ true) (shown_all es)
   lines-stood a [] nothing t = tt
-  lines-stood a (Change state [] ∷ es) nothing t = absurd (
-      let both = found-stands s (Change state []) (standing s a (Change state [])) (finding s a es) t in
-      let has = stands-file s state [] a both.0 in
-      let none : known_file s a [] ≡ None =
-      known-nothing (file_at tree []) (is_do_file []) (a []) (top-source tree is_tree) nothing in
-      let bad : ◌≡◌ {A = Option File} None (Some has.0) = sym none ∙ has.1 in cc)
-  lines-stood a (Change state (byte ∷ bytes) ∷ es) nothing t =
-      let q : Path = byte ∷ bytes in
-      let both = found-stands s (Change state q) (standing s a (Change state q)) (finding s a es) t in
-      (refl, lines-stood a es nothing both.1)
-  lines-stood a (Create [] ∷ es) nothing t = absurd (
-      let both = found-stands s (Create []) (standing s a (Create [])) (finding s a es) t in
-      let taken : s.is_free [] ≡ false =
-      ap (λ (n : Option Node). is_none n && not (is_rule (found_of tree []))) is_tree.root in
-      stands-free (s.is_free []) taken both.0)
-  lines-stood a (Create (byte ∷ bytes) ∷ es) nothing t =
-      let q : Path = byte ∷ bytes in
-      let both = found-stands s (Create q) (standing s a (Create q)) (finding s a es) t in
-      (refl, lines-stood a es nothing both.1)
-  lines-stood a (Always ∷ es) nothing t = absurd cc
+  lines-stood a (e ∷ es) nothing t =
+      let both = found-stands s e (standing s a e) (finding s a es) t in
+      (line-stood a e nothing both.0, lines-stood a es nothing both.1)
 
   -- and for each of the record of a target that was built
   pub lines-checked : (p : Path) (a : Ask) (file : File) (o : Option Check) → told (a []) ≡ None →
@@ -115,16 +114,11 @@ module _ (given : GivenView) (is_tree : IsTree given.past.sources) where
   lines-checked p a file (Some c) nothing e =
       let found : Finding = finding s a c.entries in
       let own : Progress = s.progress p a in
-      elim (cases_Standing found.standing) [
-        | inl t ↦
+      elim (progress-ended c.file found own (outcomes.Built file) e) [
+        | inl stood ↦
             let P : List Dep → Type 0 = AllByRecursion (λ d. is_notable d.kind d.path ≡ true) in
-            rw t (subst P (sym (finding-seen s c.entries a t)) (lines-stood a c.entries nothing t))
-        | inr other ↦ elim other [
-          | inl l ↦ absurd (let bad : ◌≡◌ {A = Option Outcome} None (Some (outcomes.Built file)) =
-              sym (progress-lacks c.file found own l) ∙ e in cc)
-          | inr f ↦
-              rw f (lines tree given.limits is_tree p a file nothing (sym (progress-falls c.file found own f) ∙ e))
-        ]
+            rw stood.0 (subst P (sym (finding-seen s c.entries a stood.0)) (lines-stood a c.entries nothing stood.0))
+        | inr begun ↦ rw begun.0 (lines tree given.limits is_tree p a file nothing begun.1)
       ]
 
   -- what was built ended with the answers at the limit
