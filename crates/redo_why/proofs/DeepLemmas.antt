@@ -12,10 +12,11 @@ use Rattle.redo_build.proofs.DepthLemmas.{cases_Option, stands_still}
 use Rattle.redo_skip.specs.Sources.{Sources}
 use Rattle.redo_skip.specs.Checks.{Check, Checks}
 use Rattle.redo_skip.specs.NewBook.{LastRun, checks_of}
+use Rattle.redo_skip.proofs.CheckLemmas.{same-both}
 use Rattle.redo_skip.proofs.NewBookLemmas.{check-known}
 use Rattle.redo_why.specs.Verdicts.{Verdicts, verdict_checked, verdict_at, AreFixed, AreReached}
 use Rattle.redo_why.specs.OutOfDate.{named, rests_on, checks_left, IsLeftAlone}
-use Rattle.redo_why.proofs.MarkLemmas.{Grows, checked-grows, checked-same, same-both, others-same, AreAlikeAt}
+use Rattle.redo_why.proofs.MarkLemmas.{Grows, checked-grows, checked-same, others-same, AreAlikeAt}
 use Rattle.redo_why.proofs.ReasonLemmas.{check_from}
 
 -- How many of the paths have a verdict

@@ -14,7 +14,7 @@ use Rattle.redo_skip.specs.Sources.{Sources}
 use Rattle.redo_skip.specs.Checks.{is_asked, file_told, source_file, has_state, same_state, stands, lacks}
 use Rattle.redo_skip.specs.Checks.{falls, stands_if, standing, asks, finding, Check, Checks}
 use Rattle.redo_skip.proofs.CheckLemmas.{by_answer, standing-asked, standing-fixed, among-asks, found-first}
-use Rattle.redo_skip.proofs.CheckLemmas.{found-later, found-stands}
+use Rattle.redo_skip.proofs.CheckLemmas.{found-later, found-stands, same-both}
 use Rattle.redo_why.specs.Verdicts.{Verdict, Keeps, Begins, Either, Verdicts, Mark, Holds, Drops, Unsure, Waits}
 use Rattle.redo_why.specs.Verdicts.{holds_if, mark_checked, mark_asked, mark, verdict_by, verdict, verdict_checked}
 use Rattle.redo_why.specs.OutOfDate.{drop_by, entry_path, first_drop, first_unsure, named, unsure_by}
@@ -219,13 +219,7 @@ module _ (s : Sources) (k : Checks) (v w : Verdicts) (more : Grows v w) where
   checked-grows None x is = is
   checked-grows (Some c) x is = verdict-grows c.entries x is
 
--- where each has what the other has they are the same
-pub same-both : {A : Type 0} (x y : Option A) → ((z : A) → x ≡ Some z → y ≡ Some z) →
-    ((z : A) → y ≡ Some z → x ≡ Some z) → x ≡ y
-same-both (Some z) y more less = sym (more z refl)
-same-both None (Some z) more less = less z refl
-same-both None None more less = refl
-
+-- where each has the verdicts of the other they are the same
 pub checked-same : (s : Sources) (k : Checks) (v w : Verdicts) → Grows v w → Grows w v → (o : Option Check) →
     verdict_checked s k v o ≡ verdict_checked s k w o
 checked-same s k v w more less o = same-both (verdict_checked s k v o) (verdict_checked s k w o)
