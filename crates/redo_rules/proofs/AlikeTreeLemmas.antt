@@ -126,17 +126,20 @@ search-file missing do_file =
 
 -- What is known of a path
 
+pub told-held : (answer : Option Outcome) → held_in None answer ≡ told answer
+told-held None = refl
+told-held (Some outcomes.Source) = refl
+told-held (Some (outcomes.Built file)) = refl
+told-held (Some (outcomes.Failed why)) = refl
+told-held (Some outcomes.Cyclic) = refl
+
 -- a file that is known is held
 pub known-held : (o : Option (List ℕ)) (by_name : Bool) (answer : Option Outcome) (file : File) →
     cond (not (is_some o || by_name)) (told answer) (cond (is_some o) (Some o) None) ≡ Some file →
     held_in o answer ≡ Some file
 known-held (Some bytes) by_name answer file e = e
 known-held None true answer file e = absurd cc
-known-held None false None file e = absurd cc
-known-held None false (Some outcomes.Source) file e = e
-known-held None false (Some (outcomes.Built other)) file e = e
-known-held None false (Some (outcomes.Failed why)) file e = absurd cc
-known-held None false (Some outcomes.Cyclic) file e = absurd cc
+known-held None false answer file e = told-held answer ∙ e
 
 -- of a .do file only the source is known
 known-script : (o : Option (List ℕ)) (by_name : Bool) (answer : Option Outcome) (file : File) → by_name ≡ true →

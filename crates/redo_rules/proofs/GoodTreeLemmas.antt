@@ -10,10 +10,10 @@ use Rattle.redo_script.specs.declared.fault.ScriptFault.{ScriptFault}
 use Rattle.redo_script.specs.Syntax.{Script}
 use Rattle.redo_script.specs.Texts.{script_in}
 use Rattle.redo_tree.specs.Tree as tree_words
-use Rattle.redo_tree.specs.Tree.{Tree, IsTree, Node, bytes_of, file_at, node_at}
+use Rattle.redo_tree.specs.Tree.{Tree, IsTree, Node, bytes_of, file_at}
 use Rattle.redo_which.specs.Candidates.{Place, candidates_of, is_do_file, is_never_made, is_reserved, once, places_of}
 use Rattle.redo_which.specs.Rule.{Found, Source, Directory, NoDirectory, NoRule, Rule, Arguments}
-use Rattle.redo_which.specs.Rule.{arguments_of, chosen_of, found_of, is_file, is_rule, missing_of}
+use Rattle.redo_which.specs.Rule.{chosen_of, found_of, is_file, is_rule}
 use Rattle.redo_record.specs.declared.deps.Dep.{Dep}
 use Rattle.redo_record.specs.declared.deps.DepKind.{DepKind}
 use Rattle.redo_record.specs.declared.deps.DepKind.TheVariants as kinds
@@ -37,57 +37,8 @@ use Rattle.redo_book.specs.Noted.{is_notable}
 use Rattle.redo_past.specs.NewBook.{is_built}
 use Rattle.redo_rules.specs.Build.{sources_of}
 use Rattle.redo_rules.specs.inside.Worlds.{IsFit, World, progress_in, world_of}
-use Rattle.redo_rules.proofs.AlikeTreeLemmas.{entered-all}
-use Rattle.redo_rules.proofs.LawfulTreeLemmas.{fit_found}
-
--- What is found, by cases
-
-module _ (tree : Tree) (p : Path) (P : Found → Type 0) (source : is_some (file_at tree p) ≡ true → P Source)
-    (directory : P Directory) (no_directory : P NoDirectory)
-    (no_rule : chosen_of tree p ≡ None → P (NoRule (missing_of tree p)))
-    (rule : (place : Place) → chosen_of tree p ≡ Some place →
-    P (Rule place.do_file (missing_of tree p) (arguments_of p place))) where
-  found_chosen : (o : Option Place) → chosen_of tree p ≡ o →
-      P (elim o [
-        | None ↦ NoRule (missing_of tree p)
-        | Some place ↦ Rule place.do_file (missing_of tree p) (arguments_of p place)
-      ])
-  found_chosen None e = no_rule e
-  found_chosen (Some place) e = rule place e
-
-  found_below : (up : Option Node) → P (elim up [
-    | Some node ↦ elim node [
-      | tree_words.Directory ↦ elim (chosen_of tree p) [
-        | None ↦ NoRule (missing_of tree p)
-        | Some place ↦ Rule place.do_file (missing_of tree p) (arguments_of p place)
-      ]
-      | tree_words.File bytes ↦ NoDirectory
-    ]
-    | None ↦ NoDirectory
-  ])
-  found_below (Some tree_words.Directory) = found_chosen (chosen_of tree p) refl
-  found_below (Some (tree_words.File bytes)) = no_directory
-  found_below None = no_directory
-
-  found_here : (n : Option Node) → node_at tree p ≡ n → P (elim n [
-    | Some node ↦ elim node [ tree_words.Directory ↦ Directory | tree_words.File bytes ↦ Source ]
-    | None ↦ elim (option_and_then (node_at tree) (parent_of p)) [
-      | Some node ↦ elim node [
-        | tree_words.Directory ↦ elim (chosen_of tree p) [
-          | None ↦ NoRule (missing_of tree p)
-          | Some place ↦ Rule place.do_file (missing_of tree p) (arguments_of p place)
-        ]
-        | tree_words.File bytes ↦ NoDirectory
-      ]
-      | None ↦ NoDirectory
-    ]
-  ])
-  found_here (Some tree_words.Directory) e = directory
-  found_here (Some (tree_words.File bytes)) e = source (rw e refl)
-  found_here None e = found_below (option_and_then (node_at tree) (parent_of p))
-
-  found_cases : P (found_of tree p)
-  found_cases = found_here (node_at tree p) refl
+use Rattle.redo_rules.proofs.AlikeTreeLemmas.{entered-all, told-held}
+use Rattle.redo_rules.proofs.LawfulTreeLemmas.{fit_found, found_cases}
 
 no-candidates : (p : Path) → is_do_file p ≡ true → candidates_of p ≡ []
 no-candidates p named =
@@ -111,13 +62,6 @@ script-unruled tree p named =
     absurd (let bad : ◌≡◌ {A = Option Place} None (Some place) = sym none ∙ e in cc))
 
 -- What is known of a path
-
-told-held : (answer : Option Outcome) → held_in None answer ≡ told answer
-told-held None = refl
-told-held (Some outcomes.Source) = refl
-told-held (Some (outcomes.Built file)) = refl
-told-held (Some (outcomes.Failed why)) = refl
-told-held (Some outcomes.Cyclic) = refl
 
 abbrev known : Option (List ℕ) → Bool → Option Outcome → Option File
 known o by_name answer = cond (not (is_some o || by_name)) (told answer) (cond (is_some o) (Some o) None)

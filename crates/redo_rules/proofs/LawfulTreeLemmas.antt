@@ -1,5 +1,5 @@
 -- The rules of a source tree are lawful.
-use Rattle.std.proofs.Common.{◌≡◌, ℕ, Bool, true, false, find, inl, inr, List, [], ◌∷◌, Option, Some, None, refl, ap}
+use Rattle.std.proofs.Common.{◌≡◌, ℕ, Bool, true, false, find, inl, inr, List, [], ◌∷◌, Option, Some, None, refl, ap, is_some}
 use Rattle.std.specs.Prelude.{unwrap_or, option_and_then}
 use Rattle.std.proofs.lemmas.Bool.{cases_Bool}
 use Rattle.redo_script.specs.Texts.{script_in}
@@ -57,22 +57,22 @@ world-lawful w fits = record {
   begins_waits = λ p q a b more asked none. refl;
 }
 
--- The search finds files
+-- What is found, by cases
 
-find-passes : {X : Type 0} (f : X → Bool) (xs : List X) (x : X) → find f xs ≡ Some x → f x ≡ true
-find-passes f [] x e = absurd cc
-find-passes f (y ∷ ys) x e = elim (cases_Bool (f y)) [
-  | inl t ↦ let same : y ≡ x = (let now = rw t at e in cc) in rw (← same) t
-  | inr n ↦ find-passes f ys x (rw n at e)
-]
+module _ (tree : Tree) (p : List ℕ) (P : Found → Type 0) (source : is_some (file_at tree p) ≡ true → P Source)
+    (directory : P Directory) (no_directory : P NoDirectory)
+    (no_rule : chosen_of tree p ≡ None → P (NoRule (missing_of tree p)))
+    (rule : (place : Place) → chosen_of tree p ≡ Some place →
+    P (Rule place.do_file (missing_of tree p) (arguments_of p place))) where
+  found_chosen : (o : Option Place) → chosen_of tree p ≡ o →
+      P (elim o [
+        | None ↦ NoRule (missing_of tree p)
+        | Some place ↦ Rule place.do_file (missing_of tree p) (arguments_of p place)
+      ])
+  found_chosen None e = no_rule e
+  found_chosen (Some place) e = rule place e
 
-module _ (tree : Tree) (p : List ℕ) where
-  fit_chosen : (o : Option Place) → chosen_of tree p ≡ o →
-      IsFit tree (elim o [ None ↦ NoRule (missing_of tree p) | Some place ↦ Rule place.do_file (missing_of tree p) (arguments_of p place) ])
-  fit_chosen None e = tt
-  fit_chosen (Some place) e = find-passes (λ (c : Place). is_file tree c.do_file) (candidates_of p) place e
-
-  fit_below : (up : Option Node) → IsFit tree (elim up [
+  found_below : (up : Option Node) → P (elim up [
     | Some node ↦ elim node [
       | tree_words.Directory ↦ elim (chosen_of tree p) [
         | None ↦ NoRule (missing_of tree p)
@@ -82,12 +82,11 @@ module _ (tree : Tree) (p : List ℕ) where
     ]
     | None ↦ NoDirectory
   ])
-  fit_below (Some tree_words.Directory) = fit_chosen (chosen_of tree p) refl
-  fit_below (Some (tree_words.File bytes)) = tt
-  fit_below None = tt
+  found_below (Some tree_words.Directory) = found_chosen (chosen_of tree p) refl
+  found_below (Some (tree_words.File bytes)) = no_directory
+  found_below None = no_directory
 
-  pub fit_found : IsFit tree (found_of tree p)
-  fit_found = elim (node_at tree p) as (λ (n : Option Node). IsFit tree (elim n [
+  found_here : (n : Option Node) → node_at tree p ≡ n → P (elim n [
     | Some node ↦ elim node [ tree_words.Directory ↦ Directory | tree_words.File bytes ↦ Source ]
     | None ↦ elim (option_and_then (node_at tree) (parent_of p)) [
       | Some node ↦ elim node [
@@ -99,10 +98,26 @@ module _ (tree : Tree) (p : List ℕ) where
       ]
       | None ↦ NoDirectory
     ]
-  ])) [
-    | Some node ↦ elim node as (λ (n : Node). IsFit tree (elim n [ tree_words.Directory ↦ Directory | tree_words.File bytes ↦ Source ])) [ tree_words.Directory ↦ tt | tree_words.File bytes ↦ tt ]
-    | None ↦ fit_below (option_and_then (node_at tree) (parent_of p))
-  ]
+  ])
+  found_here (Some tree_words.Directory) e = directory
+  found_here (Some (tree_words.File bytes)) e = source (rw e refl)
+  found_here None e = found_below (option_and_then (node_at tree) (parent_of p))
+
+  pub found_cases : P (found_of tree p)
+  found_cases = found_here (node_at tree p) refl
+
+-- The search finds files
+
+find-passes : {X : Type 0} (f : X → Bool) (xs : List X) (x : X) → find f xs ≡ Some x → f x ≡ true
+find-passes f [] x e = absurd cc
+find-passes f (y ∷ ys) x e = elim (cases_Bool (f y)) [
+  | inl t ↦ let same : y ≡ x = (let now = rw t at e in cc) in rw (← same) t
+  | inr n ↦ find-passes f ys x (rw n at e)
+]
+
+pub fit_found : (tree : Tree) (p : List ℕ) → IsFit tree (found_of tree p)
+fit_found tree p = found_cases tree p (IsFit tree) (λ e. tt) tt tt (λ e. tt)
+    (λ place e. find-passes (λ (c : Place). is_file tree c.do_file) (candidates_of p) place e)
 
 pub rules_lawful : (tree : Tree) (limits : LimitsView) → AreLawful (rules_of tree limits)
 rules_lawful tree limits = world-lawful (world_of tree limits) (record { fit = fit_found tree })
