@@ -145,6 +145,14 @@ module _ (s : Sources) where
   lacks-standing (Create x) a q m none = absurd m
   lacks-standing Always a q m none = absurd m
 
+  -- what doesn't wait stands or falls the same under more answers
+  pub standing-stays : (e : BookEntry) (a b : Ask) → Extends (without_book s) a b → (standing s a e ≡ lacks → ⊥) →
+      standing s b e ≡ standing s a e
+  standing-stays e a b more goes = sym (standing-same e a b (λ x n. elim (cases_Option (a x)) [
+    | inl none ↦ absurd (goes (lacks-standing e a x n none))
+    | inr some ↦ some.1 ∙ sym (more x some.0 (not-or (s.is_source x) (s.is_script x) (asks-this e x n)).0 some.1)
+  ]))
+
   -- Of an entry and the further ones
 
   pub found-first : (e : BookEntry) (v : Standing) (rest : Finding) (q : List ℕ) → IsAmong (asks s e) q →
@@ -284,11 +292,7 @@ module _ (s : Sources) where
       elim (found-cases e (standing s a e) (finding s a es) q m) [
         | inl first ↦ found-first e (standing s b e) (finding s b es) q first
         | inr later ↦
-            let stays : standing s a e ≡ standing s b e = standing-same e a b (λ x n. elim (cases_Option (a x)) [
-              | inl none ↦ absurd (let bad = lacks-standing e a x n none in let good = later.0 in cc)
-              | inr some ↦
-                  some.1 ∙ sym (more x some.0 (not-or (s.is_source x) (s.is_script x) (asks-this e x n)).0 some.1)
-            ]) in
-            found-later e (standing s b e) (finding s b es) q (sym stays ∙ later.0)
+            found-later e (standing s b e) (finding s b es) q
+            (standing-stays e a b more (λ l. let stood = later.0 in cc) ∙ later.0)
             (finding-grows es a b q more later.1)
       ]

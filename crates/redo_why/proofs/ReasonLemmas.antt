@@ -13,7 +13,7 @@ use Rattle.redo_skip.specs.Sources.{Sources, without_book}
 use Rattle.redo_skip.specs.Checks.{Standing, stands, lacks, falls, standing, Finding, found_by, finding, Check}
 use Rattle.redo_skip.specs.Checks.{with_book}
 use Rattle.redo_skip.specs.NewBook.{LastRun, is_valid, check_by, checks_of}
-use Rattle.redo_skip.proofs.CheckLemmas.{cases_Standing, finding-stays, found-first, found-later, standing-same}
+use Rattle.redo_skip.proofs.CheckLemmas.{cases_Standing, found-first, found-later, standing-same, standing-stays}
 use Rattle.redo_why.specs.Reasons.{Reason, Requested, Unrecorded, Altered, Fallen, first_by, first_fallen}
 use Rattle.redo_why.specs.Reasons.{reason_fallen, reason_recorded, reason_of, IsFirstFallen}
 use Rattle.redo_skip.proofs.CheckLemmas.{begins_checked, is_fallen}
@@ -102,17 +102,6 @@ module _ (s : Sources) (a : Ask) where
   ]
 
 -- Under more answers
-
-single : (s : Sources) (e : BookEntry) (v : Standing) (a : Ask) → (found_by s e v (finding s a [])).standing ≡ v
-single s e stands a = refl
-single s e lacks a = refl
-single s e falls a = refl
-
-pub standing-stays : (s : Sources) (e : BookEntry) (a b : Ask) → Extends (without_book s) a b →
-    (standing s a e ≡ lacks → ⊥) → standing s b e ≡ standing s a e
-standing-stays s e a b more goes =
-    let stays = finding-stays s (e ∷ []) a b more (λ l. goes (sym (single s e (standing s a e) a) ∙ l)) in
-    sym (single s e (standing s b e) b) ∙ sym (ap (λ (v : Finding). v.standing) stays) ∙ single s e (standing s a e) a
 
 -- the first that fell is the same
 pub first-stays : (s : Sources) (es : List BookEntry) (e : BookEntry) (a b : Ask) → Extends (without_book s) a b →
