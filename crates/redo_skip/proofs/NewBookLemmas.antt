@@ -55,30 +55,29 @@ unrecorded-same s last request e = unchecked-same s (checks_of s last request) (
 -- Entries as a book has them
 
 module _ (s : Sources) (a : Ask) where
+  shown-as : (k : DepKind) (q : List ℕ) → CanBeNoted s a k q →
+      shown (entry_as (state_known s a) k q) ≡ record { kind = k; path = q }
+  shown-as kinds.Change q can = refl
+  shown-as kinds.Create q can = refl
+  shown-as kinds.Always q can = ap (λ (y : List ℕ). record { kind = kinds.Always; path = y }) (sym can)
+
   -- noting entries changes nothing of what is shown
   noted-shown : (deps : List Dep) → AllByRecursion (λ d. CanBeNoted s a d.kind d.path) deps →
       shown_all (noted (state_known s a) deps) ≡ deps
   noted-shown [] h = refl
   noted-shown (d ∷ ds) h =
-      (elim (d.kind) as (λ (k : DepKind). (q : List ℕ) → CanBeNoted s a k q → (rest : List Dep) → rest ≡ ds →
-      shown (entry_as (state_known s a) k q) ∷ rest ≡ record { kind = k; path = q } ∷ ds) [
-        | kinds.Change ↦ λ q can rest e. ap (λ (xs : List Dep). record { kind = kinds.Change; path = q } ∷ xs) e
-        | kinds.Create ↦ λ q can rest e. ap (λ (xs : List Dep). record { kind = kinds.Create; path = q } ∷ xs) e
-        | kinds.Always ↦ λ q can rest e. ap (λ (xs : List Dep). record { kind = kinds.Always; path = [] } ∷ xs) e
-            ∙ ap (λ (y : List ℕ). record { kind = kinds.Always; path = y } ∷ ds) (sym can)
-      ]) d.path h.0 (shown_all (noted (state_known s a) ds)) (noted-shown ds h.1)
+      ap (λ (x : Dep). x ∷ shown_all (noted (state_known s a) ds)) (shown-as d.kind d.path h.0)
+      ∙ ap (λ (xs : List Dep). d ∷ xs) (noted-shown ds h.1)
+
+  state-as : (k : DepKind) (q : List ℕ) → CanBeNoted s a k q → HasState s a (entry_as (state_known s a) k q)
+  state-as kinds.Change q can = (can.0, can.1, cc)
+  state-as kinds.Create q can = tt
+  state-as kinds.Always q can = tt
 
   noted-states : (deps : List Dep) → AllByRecursion (λ d. CanBeNoted s a d.kind d.path) deps →
       AllByRecursion (HasState s a) (noted (state_known s a) deps)
   noted-states [] h = tt
-  noted-states (d ∷ ds) h = (
-    (elim (d.kind) as (λ (k : DepKind). (q : List ℕ) → CanBeNoted s a k q → HasState s a (entry_as (state_known s a) k q)) [
-      | kinds.Change ↦ λ q can. (can.0, can.1, cc)
-      | kinds.Create ↦ λ q can. tt
-      | kinds.Always ↦ λ q can. tt
-    ]) d.path h.0,
-    noted-states ds h.1,
-  )
+  noted-states (d ∷ ds) h = (state-as d.kind d.path h.0, noted-states ds h.1)
 
   -- while all entries stand the new record is the old one
   noted-kept : (es : List BookEntry) → (finding s a es).standing ≡ stands → noted (state_known s a) (shown_all es) ≡ es
