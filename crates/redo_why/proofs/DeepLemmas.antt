@@ -14,7 +14,7 @@ use Rattle.redo_skip.specs.Checks.{Check, Checks}
 use Rattle.redo_skip.specs.NewBook.{LastRun, checks_of}
 use Rattle.redo_skip.proofs.CheckLemmas.{same-both}
 use Rattle.redo_skip.proofs.NewBookLemmas.{check-known}
-use Rattle.redo_why.specs.Verdicts.{Verdicts, verdict_checked, verdict_at, AreFixed, AreReached}
+use Rattle.redo_why.specs.Verdicts.{Verdict, Verdicts, verdict_checked, verdict_at, AreFixed, AreReached}
 use Rattle.redo_why.specs.OutOfDate.{named, rests_on, checks_left, IsLeftAlone}
 use Rattle.redo_why.proofs.MarkLemmas.{Grows, checked-grows, checked-same, others-same, AreAlikeAt}
 use Rattle.redo_why.proofs.ReasonLemmas.{check_from}
@@ -32,38 +32,34 @@ count-length v (p ∷ ps) = elim (cases_Bool (is_some (v p))) [
   | inr e ↦ rw e (omega (arith, count-length v ps))
 ]
 
+-- a verdict more counts one more
+one-more : (a b : Option Verdict) → ((z : Verdict) → a ≡ Some z → b ≡ Some z) →
+    cond (is_some a) 1 0 ≤ cond (is_some b) 1 0
+one-more None b more = omega arith
+one-more (Some z) b more = let also = more z refl in rw also (omega arith)
+
+one-still : (a b : Option Verdict) → ((z : Verdict) → a ≡ Some z → b ≡ Some z) →
+    cond (is_some b) 1 0 ≤ cond (is_some a) 1 0 → b ≡ a
+one-still None None more still = refl
+one-still None (Some z) more still = absurd (omega (arith, still))
+one-still (Some z) b more still = more z refl
+
 count-more : (v w : Verdicts) → Grows v w → (ps : List (List ℕ)) → count v ps ≤ count w ps
 count-more v w more [] = omega arith
 count-more v w more (p ∷ ps) =
-    let rest = count-more v w more ps in
-    elim (cases_Option (v p)) [
-      | inl none ↦ rw none (omega (arith, rest))
-      | inr some ↦ let also = more p some.0 some.1 in rw (some.1, also) (omega (arith, rest))
-    ]
+    let here = one-more (v p) (w p) (more p) in let rest = count-more v w more ps in omega (arith, here, rest)
 
 -- where as many have one, the same ones have
 count-still : (v w : Verdicts) → Grows v w → (ps : List (List ℕ)) → count w ps ≤ count v ps →
     (p : List ℕ) → IsAmong ps p → w p ≡ v p
 count-still v w more [] still p m = absurd m
 count-still v w more (x ∷ ps) still p m =
+    let here = one-more (v x) (w x) (more x) in
     let rest = count-more v w more ps in
-    elim (cases_Option (v x)) [
-      | inl none ↦ elim (cases_Option (w x)) [
-        | inl none' ↦
-            let fewer = rw (none, none') at still in
-            elim m [
-              | inl here ↦ let P : List ℕ → Type 0 = λ y. w y ≡ v y in subst P here (none' ∙ sym none)
-              | inr later ↦ count-still v w more ps (omega (arith, fewer)) p later
-            ]
-        | inr some' ↦ absurd (let fewer = rw (none, some'.1) at still in omega (arith, rest, fewer))
-      ]
-      | inr some ↦
-          let also = more x some.0 some.1 in
-          let fewer = rw (some.1, also) at still in
-          elim m [
-            | inl here ↦ let P : List ℕ → Type 0 = λ y. w y ≡ v y in subst P here (also ∙ sym some.1)
-            | inr later ↦ count-still v w more ps (omega (arith, fewer)) p later
-          ]
+    elim m [
+      | inl same ↦
+          subst (λ y. w y ≡ v y) same (one-still (v x) (w x) (more x) (omega (arith, still, rest)))
+      | inr later ↦ count-still v w more ps (omega (arith, still, here)) p later
     ]
 
 module _ (s : Sources) (k : Checks) where

@@ -1,20 +1,19 @@
 -- What is listed, by the record of a path and its verdict.
-use Rattle.std.proofs.Common.{◌≡◌, ℕ, Bool, true, false, inl, inr, List}
+use Rattle.std.proofs.Common.{◌≡◌, ℕ, Bool, true, false, not, cond, ◌&&◌, inl, inr, List}
 use Rattle.std.proofs.Common.{Option, Some, None, refl, sym, ap, subst, ◌∙◌}
-use Rattle.std.specs.Prelude.{option_and_then}
 use Rattle.std.proofs.lemmas.Bool.{cases_Bool}
 use Rattle.redo_record.specs.Paths.{is_among}
 use Rattle.redo_book.specs.declared.book.BookEntry.{BookEntry}
 use Rattle.redo_book.specs.Book.{Record, record_at}
 use Rattle.redo_book.specs.Intact.{is_intact}
 use Rattle.redo_skip.specs.Sources.{Sources}
+use Rattle.redo_skip.specs.Checks.{Check}
 use Rattle.redo_skip.specs.NewBook.{LastRun, check_by, checks_of}
 use Rattle.redo_why.specs.Reasons.{Altered, Fallen}
 use Rattle.redo_why.specs.Verdicts.{Verdict, Keeps, Begins, Either}
-use Rattle.redo_why.specs.OutOfDate.{Stale, Maybe, Ring, Lost, word_by, word_intact, word_ruled, word_recorded}
+use Rattle.redo_why.specs.OutOfDate.{Stale, Maybe, Ring, Lost, word_by, word_intact, word_recorded}
 use Rattle.redo_why.specs.OutOfDate.{Word, listed, first_drop, first_unsure, checks_left, verdict_left}
 use Rattle.redo_why.proofs.MarkLemmas.{IsOpenVerdict}
-use Rattle.redo_why.proofs.ReasonLemmas.{check_from}
 use Rattle.redo_skip.proofs.NewBookLemmas.{found-target}
 
 module _ (s : Sources) (last : LastRun) where
@@ -24,49 +23,25 @@ module _ (s : Sources) (last : LastRun) where
       checks_of s last request p ≡ Some (check_by last r)
   check-intact request p r free at ruled intact =
       let there : s.has_rule r.target ≡ true = ap s.has_rule (found-target last.book p r at) ∙ ruled in
-      ap (λ asked. check_from s last asked (record_at last.book p)) free
-      ∙ ap (check_from s last false) at ∙ by_parts r there intact
-    where
-      by_parts : (r : Record) → s.has_rule r.target ≡ true → is_intact last.file r ≡ true →
-          check_from s last false (Some r) ≡ Some (check_by last r)
-      by_parts r ruled intact = rw (ruled, intact) refl
+      rw (free, at, there, intact) refl
 
   -- an altered one is in no check
   pub check-altered : (request : List (List ℕ)) (p : List ℕ) (r : Record) → record_at last.book p ≡ Some r →
       is_intact last.file r ≡ false → checks_of s last request p ≡ None
   check-altered request p r at altered =
-      ap (check_from s last (is_among request p)) at ∙ by_parts (is_among request p) (s.has_rule r.target)
+      rw at (no-check (is_among request p) (s.has_rule r.target) (is_intact last.file r) (Some (check_by last r)) altered)
     where
-      by_parts : (asked ruled : Bool) → check_from s last asked (Some r) ≡ None
-      by_parts asked ruled = elim (cases_Bool asked) [
-        | inl t ↦ rw t refl
-        | inr f ↦ elim (cases_Bool (s.has_rule r.target)) [
-          | inl t ↦ rw f (rw (t, altered) refl)
-          | inr n ↦ rw f (rw n refl)
-        ]
-      ]
+      no-check : (asked ruled intact : Bool) (x : Option Check) → intact ≡ false →
+          cond (not asked && (ruled && intact)) x None ≡ None
+      no-check true ruled intact x f = refl
+      no-check false false intact x f = refl
+      no-check false true intact x f = ap (λ b. cond b x None) f
 
   -- A path with a record
 
   module _ (p : List ℕ) (r : Record) (target : s.is_source p ≡ false) (at : record_at last.book p ≡ Some r) where
     listed-by : listed s last p ≡ word_recorded s last p r
-    listed-by = at_target target ∙ ap (option_and_then (word_recorded s last p)) at
-      where
-        at_target : s.is_source p ≡ false →
-            listed s last p ≡ option_and_then (word_recorded s last p) (record_at last.book p)
-        at_target f = rw f refl
-
-    listed-ruled : s.has_rule p ≡ true → word_recorded s last p r ≡ word_ruled s last p r
-    listed-ruled t = rw t refl
-
-    listed-lost : s.has_rule p ≡ false → word_recorded s last p r ≡ Some Lost
-    listed-lost f = rw f refl
-
-    listed-intact : is_intact last.file r ≡ true → word_ruled s last p r ≡ word_intact s last p r
-    listed-intact t = rw t refl
-
-    listed-altered : is_intact last.file r ≡ false → word_ruled s last p r ≡ Some (Stale Altered)
-    listed-altered f = rw f refl
+    listed-by = rw (target, at) refl
 
     -- the cases of what is listed
     pub data Cases : Type 0 where
@@ -76,10 +51,10 @@ module _ (s : Sources) (last : LastRun) where
 
     pub cases : Cases
     cases = elim (cases_Bool (s.has_rule p)) [
-      | inr f ↦ is_lost f (listed-by ∙ listed-lost f)
+      | inr f ↦ is_lost f (listed-by ∙ rw f refl)
       | inl t ↦ elim (cases_Bool (is_intact last.file r)) [
-        | inr f ↦ is_altered t f (listed-by ∙ listed-ruled t ∙ listed-altered f)
-        | inl i ↦ is_checked t i (listed-by ∙ listed-ruled t ∙ listed-intact i)
+        | inr f ↦ is_altered t f (listed-by ∙ rw (t, f) refl)
+        | inl i ↦ is_checked t i (listed-by ∙ rw (t, i) refl)
       ]
     ]
 
