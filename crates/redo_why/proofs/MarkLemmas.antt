@@ -13,7 +13,7 @@ use Rattle.redo_build.specs.Rules.{Ask}
 use Rattle.redo_skip.specs.Sources.{Sources}
 use Rattle.redo_skip.specs.Checks.{is_asked, file_told, source_file, has_state, same_state, stands, lacks}
 use Rattle.redo_skip.specs.Checks.{falls, stands_if, standing, asks, finding, Check, Checks}
-use Rattle.redo_skip.proofs.CheckLemmas.{by_answer, standing-asked, standing-fixed, among-asks, found-first}
+use Rattle.redo_skip.proofs.CheckLemmas.{among-asks, found-first}
 use Rattle.redo_skip.proofs.CheckLemmas.{found-later, found-stands, same-both}
 use Rattle.redo_why.specs.Verdicts.{Verdict, Keeps, Begins, Either, Verdicts, Mark, Holds, Drops, Unsure, Waits}
 use Rattle.redo_why.specs.Verdicts.{holds_if, mark_checked, mark_asked, mark, verdict_by, verdict, verdict_checked}
@@ -90,15 +90,6 @@ asked-waits ruled state (Some c) (Some Keeps) e = absurd (holds_if-waits (same_s
 asked-waits true state None v e = absurd cc
 asked-waits _ state _ _ e = absurd cc
 
-module _ (s : Sources) (k : Checks) (v : Verdicts) where
-  pub mark-asked : (state : State) (x : List ℕ) → is_asked s x ≡ true →
-      mark s k v (Change state x) ≡ mark_asked (s.has_rule x) state (k x) (v x)
-  mark-asked state x t = rw t refl
-
-  pub mark-fixed : (state : State) (x : List ℕ) → is_asked s x ≡ false →
-      mark s k v (Change state x) ≡ holds_if (has_state state (source_file s x))
-  mark-fixed state x f = rw f refl
-
 module _ (s : Sources) (a : Ask) (P : List ℕ → Type 0) (e : BookEntry) (es : List BookEntry)
     (all : (q : List ℕ) → IsAmong (finding s a (e ∷ es)).asked q → P q) where
   -- what holds of all that is asked for, of the first entry and of the further ones
@@ -118,13 +109,9 @@ module _ (s : Sources) (k : Checks) (v : Verdicts) (a : Ask) where
       standing s a e ≡ stands
   holds-stands (Change state x) h fits = elim (cases_Bool (is_asked s x)) [
     | inl t ↦
-        let is = asked-holds (s.has_rule x) state (k x) (v x) (sym (mark-asked s k v state x t) ∙ h) in
-        standing-asked s a state x t
-        ∙ ap (by_answer state) ((fits x (among-asks s state x t)).kept is.check is.at is.keeps)
-        ∙ ap stands_if is.agrees
-    | inr f ↦
-        standing-fixed s a state x f
-        ∙ ap stands_if (holds_if-holds (has_state state (source_file s x)) (sym (mark-fixed s k v state x f) ∙ h))
+        let is = asked-holds (s.has_rule x) state (k x) (v x) (rw t at h) in
+        rw (t, (fits x (among-asks s state x t)).kept is.check is.at is.keeps) (ap stands_if is.agrees)
+    | inr f ↦ rw f (ap stands_if (holds_if-holds (has_state state (source_file s x)) (rw f at h)))
   ]
   holds-stands (Create x) h fits = ap stands_if (holds_if-holds (s.is_free x) h)
   holds-stands Always h fits = absurd cc
@@ -132,19 +119,13 @@ module _ (s : Sources) (k : Checks) (v : Verdicts) (a : Ask) where
   pub drops-falls : (e : BookEntry) → mark s k v e ≡ Drops → ((q : List ℕ) → IsAmong (asks s e) q → FitsAt q) →
       standing s a e ≡ falls
   drops-falls (Change state x) h fits = elim (cases_Bool (is_asked s x)) [
-    | inl t ↦ elim (asked-drops (s.has_rule x) state (k x) (v x) (sym (mark-asked s k v state x t) ∙ h)) [
-      | inl is ↦
-          standing-asked s a state x t
-          ∙ ap (by_answer state) ((fits x (among-asks s state x t)).kept is.check is.at is.keeps)
-          ∙ ap stands_if is.agrees
+    | inl t ↦ elim (asked-drops (s.has_rule x) state (k x) (v x) (rw t at h)) [
+      | inl is ↦ rw (t, (fits x (among-asks s state x t)).kept is.check is.at is.keeps) (ap stands_if is.agrees)
       | inr unruled ↦
           let fails = (fits x (among-asks s state x t)).lost unruled in
-          standing-asked s a state x t ∙ ap (by_answer state) fails.1
-          ∙ ap (λ file. stands_if (has_state state file)) fails.2
+          rw (t, fails.1) (ap (λ file. stands_if (has_state state file)) fails.2)
     ]
-    | inr f ↦
-        standing-fixed s a state x f
-        ∙ ap stands_if (holds_if-drops (has_state state (source_file s x)) (sym (mark-fixed s k v state x f) ∙ h))
+    | inr f ↦ rw f (ap stands_if (holds_if-drops (has_state state (source_file s x)) (rw f at h)))
   ]
   drops-falls (Create x) h fits = ap stands_if (holds_if-drops (s.is_free x) h)
   drops-falls Always h fits = refl
@@ -200,11 +181,8 @@ grows-by _ n rest rest' x same more is = rw (same (λ bad. cc)) is
 module _ (s : Sources) (k : Checks) (v w : Verdicts) (more : Grows v w) where
   mark-grows : (e : BookEntry) → (mark s k v e ≡ Waits → ⊥) → mark s k w e ≡ mark s k v e
   mark-grows (Change state x) goes = elim (cases_Bool (is_asked s x)) [
-    | inl t ↦
-        mark-asked s k w state x t
-        ∙ asked-grows (s.has_rule x) state (k x) (v x) (w x) (more x) (λ e. goes (mark-asked s k v state x t ∙ e))
-        ∙ sym (mark-asked s k v state x t)
-    | inr f ↦ mark-fixed s k w state x f ∙ sym (mark-fixed s k v state x f)
+    | inl t ↦ rw t (asked-grows (s.has_rule x) state (k x) (v x) (w x) (more x) (rw t at goes))
+    | inr f ↦ rw f refl
   ]
   mark-grows (Create x) goes = refl
   mark-grows Always goes = refl
@@ -235,11 +213,8 @@ module _ (s : Sources) (k l : Checks) (v w : Verdicts) where
   mark-same : (e : BookEntry) → ((q : List ℕ) → IsAmong (asks s e) q → AreAlikeAt k v l w q) →
       mark s k v e ≡ mark s l w e
   mark-same (Change state x) alike = elim (cases_Bool (is_asked s x)) [
-    | inl t ↦
-        let here = alike x (among-asks s state x t) in
-        mark-asked s k v state x t ∙ ap (λ o. mark_asked (s.has_rule x) state o (v x)) here.0
-        ∙ ap (mark_asked (s.has_rule x) state (l x)) here.1 ∙ sym (mark-asked s l w state x t)
-    | inr f ↦ mark-fixed s k v state x f ∙ sym (mark-fixed s l w state x f)
+    | inl t ↦ let here = alike x (among-asks s state x t) in rw (t, here.0, here.1) refl
+    | inr f ↦ rw f refl
   ]
   mark-same (Create x) alike = refl
   mark-same Always alike = refl
@@ -279,15 +254,12 @@ module _ (s : Sources) (k : Checks) (v : Verdicts) (a : Ask) where
       (standing s a e ≡ lacks) ⊎ (standing s a e ≡ stands)
   holds-lacks (Change state x) h lack = elim (cases_Bool (is_asked s x)) [
     | inl t ↦
-        let is = asked-holds (s.has_rule x) state (k x) (v x) (sym (mark-asked s k v state x t) ∙ h) in
+        let is = asked-holds (s.has_rule x) state (k x) (v x) (rw t at h) in
         elim ((lack x (among-asks s state x t)).kept is.check is.at is.keeps) [
-          | inl none ↦ inl (standing-asked s a state x t ∙ ap (by_answer state) none)
-          | inr some ↦
-              inr (standing-asked s a state x t ∙ ap (by_answer state) some ∙ ap stands_if is.agrees)
+          | inl none ↦ inl (rw (t, none) refl)
+          | inr some ↦ inr (rw (t, some) (ap stands_if is.agrees))
         ]
-    | inr f ↦ inr (
-        standing-fixed s a state x f
-        ∙ ap stands_if (holds_if-holds (has_state state (source_file s x)) (sym (mark-fixed s k v state x f) ∙ h)))
+    | inr f ↦ inr (rw f (ap stands_if (holds_if-holds (has_state state (source_file s x)) (rw f at h))))
   ]
   holds-lacks (Create x) h lack = inr (ap stands_if (holds_if-holds (s.is_free x) h))
   holds-lacks Always h lack = absurd cc
@@ -296,11 +268,9 @@ module _ (s : Sources) (k : Checks) (v : Verdicts) (a : Ask) where
       standing s a e ≡ lacks
   waits-lacks (Change state x) h lack = elim (cases_Bool (is_asked s x)) [
     | inl t ↦
-        let is = asked-waits (s.has_rule x) state (k x) (v x) (sym (mark-asked s k v state x t) ∙ h) in
-        let none = (lack x (among-asks s state x t)).waits is.0.0 is.0.1 is.1 in
-        standing-asked s a state x t ∙ ap (by_answer state) none
-    | inr f ↦ absurd (
-        holds_if-waits (has_state state (source_file s x)) (sym (mark-fixed s k v state x f) ∙ h))
+        let is = asked-waits (s.has_rule x) state (k x) (v x) (rw t at h) in
+        rw (t, (lack x (among-asks s state x t)).waits is.0.0 is.0.1 is.1) refl
+    | inr f ↦ absurd (holds_if-waits (has_state state (source_file s x)) (rw f at h))
   ]
   waits-lacks (Create x) h lack = absurd (holds_if-waits (s.is_free x) h)
   waits-lacks Always h lack = absurd cc
@@ -395,9 +365,9 @@ module _ (s : Sources) (k : Checks) (v : Verdicts) where
       (q : List ℕ) × IsAmong (asks s e) q × IsUnsureAt s k v q × (q ≡ entry_path e)
   mark-unsure (Change state x) h = elim (cases_Bool (is_asked s x)) [
     | inl t ↦
-        let why = asked-unsure (s.has_rule x) state (k x) (v x) (sym (mark-asked s k v state x t) ∙ h) in
+        let why = asked-unsure (s.has_rule x) state (k x) (v x) (rw t at h) in
         (x, among-asks s state x t, record { target = t; why = why }, refl)
-    | inr f ↦ absurd (holds_if-unsure (has_state state (source_file s x)) (sym (mark-fixed s k v state x f) ∙ h))
+    | inr f ↦ absurd (holds_if-unsure (has_state state (source_file s x)) (rw f at h))
   ]
   mark-unsure (Create x) h = absurd (holds_if-unsure (s.is_free x) h)
   mark-unsure Always h = absurd cc
