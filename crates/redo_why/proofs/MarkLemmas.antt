@@ -19,7 +19,7 @@ use Rattle.redo_why.specs.Verdicts.{Verdict, Keeps, Begins, Either, Verdicts, Ma
 use Rattle.redo_why.specs.Verdicts.{holds_if, mark_checked, mark_asked, mark, verdict_by, verdict, verdict_checked}
 use Rattle.redo_why.specs.OutOfDate.{drop_by, entry_path, first_drop, first_unsure, named, unsure_by}
 use Rattle.redo_why.specs.Reasons.{first_fallen}
-use Rattle.redo_why.proofs.ReasonLemmas.{by-stands, by-lacks, first-stands, first-falls, first-falls-all}
+use Rattle.redo_why.proofs.ReasonLemmas.{first-falls-all}
 
 -- What the verdict tells of the first entry
 
@@ -137,8 +137,7 @@ module _ (s : Sources) (k : Checks) (v : Verdicts) (a : Ask) where
   keeps-stands (e ∷ es) h fits =
       let both = keeps-by (mark s k v e) (verdict s k v es) h in
       let here = holds-stands e both.0 (at-first s a FitsAt e es fits) in
-      by-stands s a e (standing s a e) (finding s a es) here
-      ∙ keeps-stands es both.1 (at-later s a FitsAt e es fits here)
+      rw here (keeps-stands es both.1 (at-later s a FitsAt e es fits here))
 
   drop-later : (e d : BookEntry) (m : Mark) (rest : Option BookEntry) → (m ≡ Drops → ⊥) → drop_by e m rest ≡ Some d →
       rest ≡ Some d
@@ -283,23 +282,15 @@ module _ (s : Sources) (k : Checks) (v : Verdicts) (a : Ask) where
       let first = at-first s a LacksAt e es lack in
       elim (none-by (mark s k v e) (verdict s k v es) h) [
         | inl later ↦ elim (holds-lacks e later.0 first) [
-          | inl l ↦ by-lacks s a e (standing s a e) (finding s a es) l
-          | inr t ↦
-              by-stands s a e (standing s a e) (finding s a es) t
-              ∙ none-lacks es later.1 (at-later s a LacksAt e es lack t)
+          | inl l ↦ rw l refl
+          | inr t ↦ rw t (none-lacks es later.1 (at-later s a LacksAt e es lack t))
         ]
-        | inr waits ↦ by-lacks s a e (standing s a e) (finding s a es) (waits-lacks e waits first)
+        | inr waits ↦ let lacking = waits-lacks e waits first in rw lacking refl
       ]
 
 -- The first entry that drops is the first that fell, where the verdict is that the script is begun
 
 module _ (s : Sources) (k : Checks) (v : Verdicts) (a : Ask) where
-  drop-holds : (e : BookEntry) (m : Mark) (rest : Option BookEntry) → m ≡ Holds → drop_by e m rest ≡ rest
-  drop-holds e m rest is = rw is refl
-
-  drop-drops : (e : BookEntry) (m : Mark) (rest : Option BookEntry) → m ≡ Drops → drop_by e m rest ≡ Some e
-  drop-drops e m rest is = rw is refl
-
   pub begins-first : (es : List BookEntry) → verdict s k v es ≡ Some Begins →
       ((q : List ℕ) → IsAmong (finding s a es).asked q → FitsAt s k v a q) → first_fallen s a es ≡ first_drop s k v es
   begins-first [] h fits = refl
@@ -308,12 +299,8 @@ module _ (s : Sources) (k : Checks) (v : Verdicts) (a : Ask) where
       elim (begins-by (mark s k v e) (verdict s k v es) h) [
         | inl later ↦
             let here = holds-stands s k v a e later.0 first in
-            first-stands s a e (standing s a e) (first_fallen s a es) here
-            ∙ begins-first es later.1 (at-later s a (FitsAt s k v a) e es fits here)
-            ∙ sym (drop-holds e (mark s k v e) (first_drop s k v es) later.0)
-        | inr drops ↦
-            first-falls s a e (standing s a e) (first_fallen s a es) (drops-falls s k v a e drops first)
-            ∙ sym (drop-drops e (mark s k v e) (first_drop s k v es) drops)
+            rw (here, later.0) (begins-first es later.1 (at-later s a (FitsAt s k v a) e es fits here))
+        | inr drops ↦ let fell = drops-falls s k v a e drops first in rw (fell, drops) refl
       ]
 
 module _ (s : Sources) (k : Checks) (v : Verdicts) where

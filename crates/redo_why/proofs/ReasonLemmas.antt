@@ -10,7 +10,7 @@ use Rattle.redo_book.specs.Book.{Record, record_at}
 use Rattle.redo_book.specs.Intact.{is_intact}
 use Rattle.redo_build.specs.Rules.{Ask, Extends}
 use Rattle.redo_skip.specs.Sources.{Sources, without_book}
-use Rattle.redo_skip.specs.Checks.{Standing, stands, lacks, falls, standing, Finding, found_by, finding, Check}
+use Rattle.redo_skip.specs.Checks.{Standing, stands, lacks, falls, standing, finding, Check}
 use Rattle.redo_skip.specs.Checks.{with_book}
 use Rattle.redo_skip.specs.NewBook.{LastRun, is_valid, check_by, checks_of}
 use Rattle.redo_skip.proofs.CheckLemmas.{cases_Standing, found-first, found-later, standing-same, standing-stays}
@@ -22,24 +22,6 @@ use Rattle.redo_skip.proofs.NewBookLemmas.{found-target}
 -- Of entries
 
 module _ (s : Sources) (a : Ask) where
-  pub first-stands : (e : BookEntry) (v : Standing) (rest : Option BookEntry) → v ≡ stands → first_by e v rest ≡ rest
-  first-stands e v rest t = rw t refl
-
-  pub first-falls : (e : BookEntry) (v : Standing) (rest : Option BookEntry) → v ≡ falls → first_by e v rest ≡ Some e
-  first-falls e v rest t = rw t refl
-
-  first-lacks : (e : BookEntry) (v : Standing) (rest : Option BookEntry) → v ≡ lacks → first_by e v rest ≡ None
-  first-lacks e v rest t = rw t refl
-
-  pub by-stands : (e : BookEntry) (v : Standing) (rest : Finding) → v ≡ stands → (found_by s e v rest).standing ≡ rest.standing
-  by-stands e v rest t = rw t refl
-
-  pub by-falls : (e : BookEntry) (v : Standing) (rest : Finding) → v ≡ falls → (found_by s e v rest).standing ≡ falls
-  by-falls e v rest t = rw t refl
-
-  pub by-lacks : (e : BookEntry) (v : Standing) (rest : Finding) → v ≡ lacks → (found_by s e v rest).standing ≡ lacks
-  by-lacks e v rest t = rw t refl
-
   first-from : (e : BookEntry) (v : Standing) (rest : Option BookEntry) (d : BookEntry) → first_by e v rest ≡ Some d →
       ((v ≡ stands) × (rest ≡ Some d)) ⊎ ((v ≡ falls) × (e ≡ d))
   first-from e stands rest d is = inl (refl, is)
@@ -51,13 +33,10 @@ module _ (s : Sources) (a : Ask) where
       (e : BookEntry) × (first_fallen s a es ≡ Some e)
   falls-first [] f = absurd cc
   falls-first (e ∷ es) f = elim (cases_Standing (standing s a e)) [
-    | inl t ↦
-        let later = falls-first es (sym (by-stands e (standing s a e) (finding s a es) t) ∙ f) in
-        (later.0, first-stands e (standing s a e) (first_fallen s a es) t ∙ later.1)
+    | inl t ↦ let later = falls-first es (rw t at f) in (later.0, rw t later.1)
     | inr other ↦ elim other [
-      | inl l ↦ absurd (
-          let bad : lacks ≡ falls = sym (by-lacks e (standing s a e) (finding s a es) l) ∙ f in cc)
-      | inr d ↦ (e, first-falls e (standing s a e) (first_fallen s a es) d)
+      | inl l ↦ absurd (let bad : lacks ≡ falls = rw l at f in cc)
+      | inr d ↦ (e, rw d refl)
     ]
   ]
 
@@ -85,10 +64,8 @@ module _ (s : Sources) (a : Ask) where
   is-first-in : (before after : List BookEntry) (e : BookEntry) →
       AllByRecursion (λ x. standing s a x ≡ stands) before → standing s a e ≡ falls →
       first_fallen s a (before ++ e ∷ after) ≡ Some e
-  is-first-in [] after e stood fell = first-falls e (standing s a e) (first_fallen s a after) fell
-  is-first-in (x ∷ xs) after e stood fell =
-      first-stands x (standing s a x) (first_fallen s a (xs ++ e ∷ after)) stood.0
-      ∙ is-first-in xs after e stood.1 fell
+  is-first-in [] after e stood fell = rw fell refl
+  is-first-in (x ∷ xs) after e stood fell = rw (stood.0) (is-first-in xs after e stood.1 fell)
 
   pub is-first : (es : List BookEntry) (e : BookEntry) → IsFirstFallen s a es e → first_fallen s a es ≡ Some e
   is-first es e is = ap (first_fallen s a) is.whole ∙ is-first-in is.before is.after e is.stood is.fell
@@ -97,8 +74,8 @@ module _ (s : Sources) (a : Ask) where
       (finding s a es).standing ≡ falls
   first-falls-all [] e is = absurd cc
   first-falls-all (x ∷ es) e is = elim (first-from x (standing s a x) (first_fallen s a es) e is) [
-    | inl both ↦ by-stands x (standing s a x) (finding s a es) both.0 ∙ first-falls-all es e both.1
-    | inr here ↦ by-falls x (standing s a x) (finding s a es) here.0
+    | inl both ↦ rw (both.0) (first-falls-all es e both.1)
+    | inr here ↦ rw (here.0) refl
   ]
 
 -- Under more answers
@@ -110,10 +87,10 @@ first-stays s [] e a b more is = absurd cc
 first-stays s (x ∷ es) e a b more is = elim (first-from s a x (standing s a x) (first_fallen s a es) e is) [
   | inl both ↦
       let there = standing-stays s x a b more (λ l. let stood = both.0 in cc) ∙ both.0 in
-      first-stands s b x (standing s b x) (first_fallen s b es) there ∙ first-stays s es e a b more both.1
+      rw there (first-stays s es e a b more both.1)
   | inr here ↦
       let there = standing-stays s x a b more (λ l. let fell = here.0 in cc) ∙ here.0 in
-      first-falls s b x (standing s b x) (first_fallen s b es) there ∙ ap (λ (y : BookEntry). Some y) here.1
+      rw there (ap (λ (y : BookEntry). Some y) here.1)
 ]
 
 first-rest : (e : BookEntry) (v : Standing) (x y : Option BookEntry) → (v ≡ stands → x ≡ y) →
