@@ -84,10 +84,8 @@ module _ (s : Sources) where
   pub stands-state : (a : Ask) (state : State) (x : List ℕ) → standing s a (Change state x) ≡ stands →
       has_state state (known_file s a x) ≡ true
   stands-state a state x e = elim (cases_Bool (is_asked s x)) [
-    | inl t ↦
-        ap (has_state state) (known-asked a x t) ∙ by_answer-stands state (a x) (sym (standing-asked a state x t) ∙ e)
-    | inr f ↦ ap (has_state state) (known-fixed a x f)
-        ∙ stands_if-stands (has_state state (source_file s x)) (sym (standing-fixed a state x f) ∙ e)
+    | inl t ↦ rw t (by_answer-stands state (a x) (rw t at e))
+    | inr f ↦ rw f (stands_if-stands (has_state state (source_file s x)) (rw f at e))
   ]
 
   pub asks-among : (state : State) (x q : List ℕ) → IsAmong (asks s (Change state x)) q →
@@ -121,10 +119,8 @@ module _ (s : Sources) where
   pub standing-same : (e : BookEntry) (a b : Ask) → ((q : List ℕ) → IsAmong (asks s e) q → a q ≡ b q) →
       standing s a e ≡ standing s b e
   standing-same (Change state x) a b same = elim (cases_Bool (is_asked s x)) [
-    | inl t ↦
-        standing-asked a state x t ∙ ap (by_answer state) (same x (among-asks state x t))
-        ∙ sym (standing-asked b state x t)
-    | inr f ↦ standing-fixed a state x f ∙ sym (standing-fixed b state x f)
+    | inl t ↦ let here = same x (among-asks state x t) in rw (t, here) refl
+    | inr f ↦ rw f refl
   ]
   standing-same (Create x) a b same = refl
   standing-same Always a b same = refl

@@ -5,7 +5,6 @@ use Rattle.std.proofs.Common.{subst, ◌∙◌, arith}
 use Rattle.std.proofs.lemmas.Bool.{cases_Bool}
 use Rattle.redo_names.proofs.ListLemmas.{within-length}
 use Rattle.redo_names.proofs.PathLemmas.{among-told}
-use Rattle.redo_record.specs.declared.deps.Dep.{Dep}
 use Rattle.redo_record.specs.declared.outcome.Outcome.{Outcome}
 use Rattle.redo_record.specs.declared.outcome.Outcome.TheVariants.{Built}
 use Rattle.redo_record.specs.Progress.{Progress}
@@ -18,7 +17,7 @@ use Rattle.redo_build.proofs.DepthLemmas.{reached-target}
 use Rattle.redo_build.proofs.DepthLemmas.{reached-within, reached-more, reached-distinct, settled}
 use Rattle.redo_build.proofs.TurnLemmas.{only-among}
 use Rattle.redo_skip.specs.Sources.{Sources, without_book}
-use Rattle.redo_skip.specs.Checks.{Standing, stands, falls, finding, Check, Checks, built, record_by}
+use Rattle.redo_skip.specs.Checks.{Standing, stands, falls, finding, Check, Checks, built}
 use Rattle.redo_skip.specs.Checks.{progress_checked}
 use Rattle.redo_skip.specs.Checks.{record_checked, with_book, AreChecks}
 use Rattle.redo_skip.specs.Truth.{shown_all, IsHonest, AreHonest, IsSkipping, NoneCyclic}
@@ -35,12 +34,6 @@ only-known ps a q o e = elim (cases_Bool (is_among ps q)) [
   | inl t ↦ (among-told ps q t, rw t at e)
   | inr f ↦ absurd (let bad : None ≡ Some o = rw f at e in cc)
 ]
-
-record_by-kept : (seen own : List Dep) (v : Standing) → v ≡ stands → record_by seen own v ≡ seen
-record_by-kept seen own v e = rw e refl
-
-record_by-begun : (seen own : List Dep) (v : Standing) → v ≡ falls → record_by seen own v ≡ own
-record_by-begun seen own v e = rw e refl
 
 is_fallen-begun : (v : Standing) → v ≡ falls → is_fallen v ≡ false → ⊥
 is_fallen-begun v f e = let bad : is_fallen falls ≡ false = ap is_fallen (sym f) ∙ e in cc
@@ -113,8 +106,7 @@ module _ (s : Sources) (lawful : AreLawful (without_book s)) (p : List ℕ) (fin
         record {
           outcome = progress-stands c.file (finding s a c.entries) (s.progress p a) t
               ∙ ap (λ (x : Progress). x.outcome) (sym kept);
-          deps = record_by-kept (finding s a c.entries).seen (s.progress p a).deps (finding s a c.entries).standing t
-              ∙ finding-seen s c.entries a t ∙ ap (λ (x : Progress). x.deps) (sym kept);
+          deps = rw t (finding-seen s c.entries a t ∙ ap (λ (x : Progress). x.deps) (sym kept));
           asked = asked-of;
           asks = λ q m.
               let P : Progress → Type 0 = λ x. IsAmong (are_operands x) q in
@@ -128,8 +120,7 @@ module _ (s : Sources) (lawful : AreLawful (without_book s)) (p : List ℕ) (fin
     begun-same f = record {
       outcome = progress-falls c.file (finding s a c.entries) (s.progress p a) f
           ∙ ap (λ (x : Progress). x.outcome) (sym script-same);
-      deps = record_by-begun (finding s a c.entries).seen (s.progress p a).deps (finding s a c.entries).standing f
-          ∙ ap (λ (x : Progress). x.deps) (sym script-same);
+      deps = rw f (ap (λ (x : Progress). x.deps) (sym script-same));
       asked = asked-of;
       asks = λ q m. asked-script s.is_source c.file (finding s a c.entries) (s.progress p a) q f (script-asks q m);
       kept = λ e. absurd (is_fallen-begun (finding s a c.entries).standing f e);
