@@ -59,8 +59,6 @@ pub trait Lockable {
 }
 
 impl Lockable for File {
-    ghost use Rattle.std.specs.Prelude.{Unit};
-
     ghost asked = { λ _ _. Unit {0} };
 
     fn try_lock(&self) -> Result<(), TryLockError> {

@@ -1,5 +1,5 @@
 -- What a run over a directory comes to. What the directory holds is known to no contract: it has the tree by what it
--- answered when it was listed and looked at.
+-- answered when it was listed, looked at and read.
 use Rattle.std.specs.Prelude.{◌≡◌, ◌↔◌, ◌++◌, ◌⊎◌, ◌+◌, ◌<◌, ◌==◌, suc, Bool, true, false, IsTrue, IsSome, ℕ, List, Option, Result}
 use Rattle.std.specs.Prelude.{Ok, Err, None, if◌then◌else◌, length, take}
 use Rattle.std.specs.Io.KnownBytes.{Appends}
