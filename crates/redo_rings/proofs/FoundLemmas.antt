@@ -4,11 +4,11 @@ use Rattle.std.specs.Prelude.{All, Contains, filter_map, flat_map}
 use Rattle.std.specs.Arc.{arc_value}
 use Rattle.std.specs.List.{AllZip, count_by}
 use Rattle.std.specs.Str.{bytes_eq}
-use Rattle.std.proofs.lemmas.Bool.{cases_eq, cases_lt}
+use Rattle.std.proofs.lemmas.Bool.{cases_lt}
 use Rattle.std.proofs.lemmas.List.{get_or_past, length-map, map-append, take_more}
 use Rattle.std.proofs.lemmas.List.Elements.{All-cons, All-filter, All-nil, Contains-append_right, filter_agree, filter_map-append}
 use Rattle.std.proofs.lemmas.List.Sums.{sum_by-cons}
-use Rattle.std.proofs.lemmas.Option.{slice_get-get_or, slice_get_within}
+use Rattle.std.proofs.lemmas.Option.{same_Some, slice_get-get_or, slice_get_within}
 use Rattle.redo_names.specs.Paths.{AreDistinct, IsAmong, is_among}
 use Rattle.redo_names.proofs.PathLemmas.{among-told, place-among, told-absent, told-among}
 use Rattle.redo_record.specs.Progress.{changes}
@@ -21,7 +21,7 @@ use Rattle.redo_rings.specs.Rings.{AsksFor, AsksForNone, IsChain, IsRing, LeadsT
 use Rattle.redo_rings.specs.inside.Graph.{AreAsks, IsNumbering, asks_at}
 use Rattle.redo_rings.specs.inside.Walks.{AreOnce, Goes, IsCircle, IsGraph, IsIn, IsKnown, IsSettled, circle_at, next_at, place_at, seen_at}
 use Rattle.redo_rings.specs.inside.Found.{AreRingsOf, IsRingOf, is_at}
-use Rattle.std.proofs.lemmas.Bool.Decides.{Decides-eqb}
+use Rattle.std.proofs.lemmas.Bool.Decides.{Decides-eqb, Decides-like, same_from_decides}
 use Rattle.std.proofs.lemmas.Slice.Eq.{bytes_eq-Decides}
 use Rattle.redo_rings.proofs.GraphLemmas.{one-number}
 use Rattle.redo_rings.proofs.CountLemmas.{Entry, count-apart, count-filter, count-of, is_of, kept-among, kept-distinct, kept-there, passing, paths_in}
@@ -311,22 +311,10 @@ module _ (names : List (List ℕ)) where
   same-test distinct m first at None within = refl
   same-test distinct m first at (Some n) within =
       let here = named-at names n (within n refl) in
-      ap (is_with first) here.1 ∙ elim (cases_eq n m) [
-        | inl same ↦
-            let both : Some here.0 ≡ Some first = sym here.1 ∙ subst (λ k. slice_get names k ≡ Some first) (sym same) at in
-            let one : here.0 ≡ first = cc in
-            (bytes_eq-Decides here.0 first).1 one ∙ sym ((Decides-eqb n m).1 same)
-        | inr other ↦
-            false-both (bytes_eq here.0 first) (eqb n m)
-            (λ yes. let one : here.0 ≡ first = (bytes_eq-Decides here.0 first).0 yes in
-            other (one-number names n m first distinct (here.1 ∙ ap (λ (p : List ℕ). Some p) one) at))
-            (λ yes. other ((Decides-eqb n m).0 yes))
-      ]
-    where
-      false-both : (a b : Bool) → (a ≡ true → ⊥) → (b ≡ true → ⊥) → a ≡ b
-      false-both true b x y = absurd (x refl)
-      false-both false true x y = absurd (y refl)
-      false-both false false x y = refl
+      ap (is_with first) here.1
+      ∙ same_from_decides (bytes_eq here.0 first) (eqb n m) (bytes_eq-Decides here.0 first)
+      (Decides-like (eqb n m) (λ same. same_Some here.0 first (sym here.1 ∙ ap (slice_get names) same ∙ at))
+      (λ same. one-number names n m first distinct (here.1 ∙ ap (λ (p : List ℕ). Some p) same) at) (Decides-eqb n m))
 
   pub told-count : AreDistinct names → (m : ℕ) (first : List ℕ) → slice_get names m ≡ Some first → (ps : List (List ℕ)) (os : List (Option ℕ)) → length os ≡ length ps →
       ((k n : ℕ) → place_at os k ≡ Some n → n < length names) → count_by (λ (e : List ℕ × Option (List ℕ)). is_with first e.1) (told_places names ps os) ≡ count_by (is_at m) os
@@ -345,9 +333,6 @@ module _ (names : List (List ℕ)) where
 
 pub first-of : (next : List (Option ℕ)) (seen : List Bool) (places : List (Option ℕ)) (m : ℕ) (ns : List ℕ) → IsCircle next seen places m ns → get_or ns 0 0 ≡ m
 first-of next seen places m ns circle = ap (λ l. get_or l 0 0) circle.begins.1
-
-some-same : {A : Type 0} (x y : A) → Some x ≡ Some y → x ≡ y
-some-same x y is = cc
 
 some-circle : (o : Option Circle) → o ≢ None → (c : Circle) × (o ≡ Some c)
 some-circle None some = absurd (some refl)
@@ -513,7 +498,7 @@ module _ (next : List (Option ℕ)) (seen : List Bool) (places : List (Option �
       member-on k p here is =
           let there = named-in names (numbers_of (all_circles circles)) (on_rings rings) k all-named
           (in-numbers circles m k c at (member-number k p here is)) in
-          subst (IsAmong (on_rings rings)) (some-same there.0 p (sym there.1 ∙ here)) there.2
+          subst (IsAmong (on_rings rings)) (same_Some there.0 p (sym there.1 ∙ here)) there.2
 
       same-circle : (n : ℕ) (d : Circle) (k : ℕ) → circle_at circles n ≡ Some d → IsIn d.members.items k → is_with first (place_of k) ≡ true → d ≡ c
       same-circle n d k there is is_here =
@@ -523,12 +508,12 @@ module _ (next : List (Option ℕ)) (seen : List Bool) (places : List (Option �
           sym (ap (λ o. is_with first (told names o)) (circle.placed k is) ∙ ap (is_with first) begins.1) ∙ is_here in
           let same_first = ap (λ (q : List ℕ). Some q) ((bytes_eq-Decides begins.0 first).0 placed) in
           let same_place : n ≡ m = one-number names n m first distinct (begins.1 ∙ same_first) name in
-          some-same d c (sym there ∙ subst (λ x. circle_at circles x ≡ Some c) (sym same_place) at)
+          same_Some d c (sym there ∙ subst (λ x. circle_at circles x ≡ Some c) (sym same_place) at)
 
       number-member : (k : ℕ) (p : List ℕ) → slice_get names k ≡ Some p → IsIn c.members.items k → IsAmong r.members.items p
       number-member k p here is =
           let member = named-in names c.members.items r.members.items k named is in
-          subst (IsAmong r.members.items) (some-same member.0 p (sym member.1 ∙ here)) member.2
+          subst (IsAmong r.members.items) (same_Some member.0 p (sym member.1 ∙ here)) member.2
 
       -- who is on a ring and is placed with this one is its member
       with-member : (k : ℕ) (p : List ℕ) → slice_get names k ≡ Some p → is_with first (place_of k) ≡ true → IsAmong (on_rings rings) p → IsAmong r.members.items p

@@ -1,7 +1,7 @@
 -- What cyclic targets ask for, by numbers.
-use Rattle.std.proofs.Common.{◌≡◌, ◌∙◌, ◌+◌, ◌<◌, ◌≢◌, set, ◌&&◌, ◌||◌, ◌⊎◌, inl, inr, ℕ, zero, suc, Bool, true, false, List, [], ◌∷◌, ◌++◌, Option, Some, None, refl, sym, ap, subst, arith, length, take, map, filter, slice_get, cond, append-nil, true≢false}
+use Rattle.std.proofs.Common.{◌≡◌, ◌∙◌, ◌+◌, ◌<◌, ◌≢◌, set, ◌&&◌, ◌||◌, inl, inr, ℕ, zero, suc, Bool, true, false, List, [], ◌∷◌, ◌++◌, Option, Some, None, refl, sym, ap, subst, arith, length, take, map, filter, slice_get, cond, append-nil, true≢false}
 use Rattle.std.specs.Prelude.{Contains, slice_index_or}
-use Rattle.std.proofs.lemmas.Bool.{cases_Bool}
+use Rattle.std.proofs.lemmas.Bool.{and_parts, cases_Bool, cond_both, or_cases}
 use Rattle.std.proofs.lemmas.List.{get_or-set_same, length-set, map-append, take_more}
 use Rattle.std.proofs.lemmas.List.Elements.{Contains-append_right, filter-append, filter_map-append}
 use Rattle.std.proofs.lemmas.Option.{slice_get-get_or}
@@ -93,27 +93,12 @@ module _ {A : Type 0} where
 pub contains-cyclic : (rows : List Row) (i : ℕ) (row : Row) → i < length rows → row ≡ slice_index_or rows i row → is_cyclic row.outcome ≡ true → Contains (cyclic_among rows) row
 contains-cyclic [] i row under is cyclic = absurd (omega (arith, under))
 contains-cyclic (r ∷ rows) zero row under is cyclic =
-    let kept : cyclic_among (r ∷ rows) ≡ r ∷ cyclic_among rows =
-    ap (λ b. cond b (r ∷ cyclic_among rows) (cyclic_among rows)) (ap (λ (x : Row). is_cyclic x.outcome) (sym is) ∙ cyclic) in
-    subst (λ l. Contains l row) (sym kept) (0, omega arith, sym is)
+    let here : is_cyclic r.outcome ≡ true = ap (λ (x : Row). is_cyclic x.outcome) (sym is) ∙ cyclic in
+    rw here (0, omega arith, sym is)
 contains-cyclic (r ∷ rows) (suc i) row under is cyclic =
     let rest = contains-cyclic rows i row (omega (arith, under)) is cyclic in
-    elim (is_cyclic r.outcome) as (λ b. Contains (cond b (r ∷ cyclic_among rows) (cyclic_among rows)) row) [
-      | true ↦ Contains-append_right (r ∷ []) (cyclic_among rows) row rest
-      | false ↦ rest
-    ]
-
-or-cases : (a b : Bool) → (a || b) ≡ true → (a ≡ true) ⊎ (b ≡ true)
-or-cases true b is = inl refl
-or-cases false b is = inr is
-
-and-parts : (a b : Bool) → (a && b) ≡ true → (a ≡ true) × (b ≡ true)
-and-parts true b is = (refl, is)
-and-parts false b is = absurd (let bad : false ≡ true = is in cc)
-
-and-not : (a b : Bool) → (a && b) ≡ false → a ≡ true → b ≡ false
-and-not true b is fact = is
-and-not false b is fact = absurd (let bad : false ≡ true = fact in cc)
+    cond_both (is_cyclic r.outcome) (r ∷ cyclic_among rows) (cyclic_among rows) (λ l. Contains l row)
+    (λ _. Contains-append_right (r ∷ []) (cyclic_among rows) row rest) (λ _. rest)
 
 -- one row more whose asked numbers are noted
 module _ (names : List (List ℕ)) (rows : List Row) (table new : List Asks) (i : ℕ) (row : Row) (under : i < length rows)
@@ -129,7 +114,7 @@ module _ (names : List (List ℕ)) (rows : List Row) (table new : List Asks) (i 
     | inr no_ring ↦ ap (λ t. asks_at t k) (source no_ring)
     | inl cyclic ↦ others k (λ same.
         let one : row.path ≡ p = cc in
-        true≢false (sym ((bytes_eq-Decides row.path p).1 one) ∙ and-not (is_cyclic row.outcome) (bytes_eq row.path p) not cyclic))
+        true≢false (sym ((bytes_eq-Decides row.path p).1 one) ∙ (rw cyclic at not)))
   ]
 
   pub asks-step : ((k : ℕ) (p : List ℕ) → slice_get names k ≡ Some p →
@@ -139,11 +124,11 @@ module _ (names : List (List ℕ)) (rows : List Row) (table new : List Asks) (i 
   asks-step before k p at told =
       elim (cases_Bool (is_cyclic row.outcome && bytes_eq row.path p)) [
         | inl new_row ↦
-            let both = and-parts (is_cyclic row.outcome) (bytes_eq row.path p) new_row in
+            let both = and_parts (is_cyclic row.outcome) (bytes_eq row.path p) new_row in
             let same : row.path ≡ p = (bytes_eq-Decides row.path p).0 both.1 in
             (row, contains-cyclic rows i row under is both.0, same, here k both.0 (at ∙ ap (λ (q : List ℕ). Some q) (sym same)))
         | inr not ↦
-            let old : HasAsked k p table = elim (or-cases (is_among (map (λ (r : Row). r.path) (cyclic_among (take i rows))) p)
+            let old : HasAsked k p table = elim (or_cases (is_among (map (λ (r : Row). r.path) (cyclic_among (take i rows))) p)
             (is_cyclic row.outcome && bytes_eq row.path p) (sym (cyclic-more rows i row p under is) ∙ told)) [
               | inl was ↦ before k p at was
               | inr new_row ↦ absurd (true≢false (sym new_row ∙ not))
