@@ -22,15 +22,6 @@ module _ (next : List (Option ℕ)) where
   goes-from at end (m ∷ ns) n is (inl same) = (m ∷ ns, (ap Some (sym same), is.1))
   goes-from at end (m ∷ ns) n is (inr rest) = goes-from (next_at next m) end ns n is.1 rest
 
-pub in-last : (ns : List ℕ) (last n : ℕ) → IsIn (ns ++ last ∷ []) n → IsIn ns n ⊎ (last ≡ n)
-in-last [] last n (inl same) = inr same
-in-last [] last n (inr none) = absurd none
-in-last (m ∷ ns) last n (inl same) = inl (inl same)
-in-last (m ∷ ns) last n (inr rest) = elim (in-last ns last n rest) [
-  | inl r ↦ inl (inr r)
-  | inr e ↦ inr e
-]
-
 pub in-left : (ns ms : List ℕ) (n : ℕ) → IsIn ns n → IsIn (ns ++ ms) n
 in-left [] ms n none = absurd none
 in-left (m ∷ ns) ms n (inl same) = inl same
@@ -48,15 +39,11 @@ in-either (m ∷ ns) ms n (inr rest) = elim (in-either ns ms n rest) [
   | inr r ↦ inr r
 ]
 
-pub once-last : (ns : List ℕ) (last : ℕ) → AreOnce ns → (IsIn ns last → ⊥) → AreOnce (ns ++ last ∷ [])
-once-last [] last once new = (λ none. none, tt)
-once-last (m ∷ ns) last once new = (
-  λ is. elim (in-last ns last m is) [
-    | inl r ↦ once.0 r
-    | inr e ↦ new (inl (sym e))
-  ],
-  once-last ns last once.1 (λ is. new (inr is)),
-)
+pub in-last : (ns : List ℕ) (last n : ℕ) → IsIn (ns ++ last ∷ []) n → IsIn ns n ⊎ (last ≡ n)
+in-last ns last n is = elim (in-either ns (last ∷ []) n is) [
+  | inl old ↦ inl old
+  | inr new ↦ elim new [ inl same ↦ inr same | inr none ↦ absurd none ]
+]
 
 -- two lists without a common number
 pub once-both : (ns ms : List ℕ) → AreOnce ns → AreOnce ms → ((n : ℕ) → IsIn ns n → IsIn ms n → ⊥) → AreOnce (ns ++ ms)
@@ -68,6 +55,13 @@ once-both (n ∷ ns) ms ns_once ms_once apart = (
   ],
   once-both ns ms ns_once.1 ms_once (λ m l r. apart m (inr l) r),
 )
+
+pub once-last : (ns : List ℕ) (last : ℕ) → AreOnce ns → (IsIn ns last → ⊥) → AreOnce (ns ++ last ∷ [])
+once-last ns last once new =
+    once-both ns (last ∷ []) once (λ none. none, tt) (λ n is there. elim there [
+      | inl same ↦ new (subst (IsIn ns) (sym same) is)
+      | inr none ↦ none
+    ])
 
 pub once-parts : (ns ms : List ℕ) → AreOnce (ns ++ ms) → AreOnce ns × AreOnce ms × ((n : ℕ) → IsIn ns n → IsIn ms n → ⊥)
 once-parts [] ms once = (tt, once, λ n none _. none)
