@@ -70,8 +70,3 @@ once-drop ns i once = (once-parts (take i ns) (drop i ns) (subst AreOnce (sym (t
 
 pub in-drop : (ns : List ℕ) (i n : ℕ) → IsIn (drop i ns) n → IsIn ns n
 in-drop ns i n is = subst (λ l. IsIn l n) (take-append-drop i ns) (in-right (take i ns) (drop i ns) n is)
-
-pub got-in : (ns : List ℕ) (i n : ℕ) → slice_get ns i ≡ Some n → IsIn ns n
-got-in [] i n is = absurd (let bad : None ≡ Some n = is in cc)
-got-in (m ∷ ns) zero n is = inl (cc)
-got-in (m ∷ ns) (suc i) n is = inr (got-in ns i n is)

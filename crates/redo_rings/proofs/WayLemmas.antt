@@ -60,16 +60,3 @@ module _ (next : List (Option ℕ)) (before seen : List Bool) (start : Option �
   pub began-step : (first : ℕ) → here < length seen → (Some here ≡ Some first) ⊎ (seen_at seen first ≡ true) → seen_at (set seen here true) first ≡ true
   began-step first under (inl same) = let is : here ≡ first = cc in subst (λ k. seen_at (set seen here true) k ≡ true) is (marked-here seen here under)
   began-step first under (inr old) = marked-still seen here first under old
-
-pub way-begins : (next : List (Option ℕ)) (seen : List Bool) (start : ℕ) → start < length next → IsWay next seen seen (Some start) [] (Some start)
-way-begins next seen start within = record {
-  goes = refl;
-  once = tt;
-  fresh = λ n none. absurd none;
-  within = λ n none. absurd none;
-  size = refl;
-  kept = λ n is. is;
-  marked = λ n none. absurd none;
-  inside = λ n is. let same : start ≡ n = cc in subst (λ k. k < length next) same within;
-  no_more = λ n is. inl is;
-}
