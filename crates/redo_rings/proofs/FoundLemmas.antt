@@ -1,5 +1,5 @@
 -- Rings of paths, found by walks over numbers.
-use Rattle.std.proofs.Common.{◌≡◌, ◌≢◌, ◌∙◌, ◌+◌, ◌<◌, ◌≤◌, ◌⊎◌, inl, inr, ℕ, zero, suc, Bool, true, false, List, [], ◌∷◌, ◌++◌, Option, Some, None, refl, sym, ap, subst, arith, length, get_or, map, slice_get, take, eqb, append-nil, cond, not, true≢false, ◌&&◌, ◌-◌}
+use Rattle.std.proofs.Common.{◌≡◌, ◌≢◌, ◌∙◌, ◌+◌, ◌<◌, inl, inr, ℕ, zero, suc, Bool, true, false, List, [], ◌∷◌, ◌++◌, Option, Some, None, refl, sym, ap, subst, arith, length, get_or, map, slice_get, take, eqb, append-nil, cond, not, true≢false, ◌&&◌, ◌-◌}
 use Rattle.std.specs.Prelude.{All, Contains, filter_map, flat_map}
 use Rattle.std.specs.Arc.{arc_value}
 use Rattle.std.specs.List.{AllZip, count_by}
@@ -12,6 +12,7 @@ use Rattle.std.proofs.lemmas.Option.{same_Some, slice_get-get_or, slice_get_with
 use Rattle.redo_names.specs.Paths.{AreDistinct, IsAmong, is_among}
 use Rattle.redo_names.proofs.PathLemmas.{among-told, place-among, told-absent, told-among}
 use Rattle.redo_record.specs.Progress.{changes}
+use Rattle.redo_build.proofs.DepthLemmas.{cases_Option}
 use Rattle.redo_report.specs.declared.report.Report.{Report}
 use Rattle.redo_report.specs.declared.report.Row.{Row}
 use Rattle.redo_rings.specs.declared.graph.Asks.{Asks}
@@ -148,17 +149,13 @@ module _ (report : Report) (names : List (List ℕ)) (table : List Asks) (next :
   last-of k at [] is within goes = absurd (let bad : None ≡ Some k = sym goes ∙ is in cc)
   last-of k at (n ∷ ns) is within goes =
       let one : n ≡ k = let both : Some n ≡ Some k = sym goes.0 ∙ is in cc in
-      elim (cases_none (next_at next k)) [
+      elim (cases_Option (next_at next k)) [
         | inl ended ↦ (k, within, ended, ([], refl))
         | inr more ↦
             let rest = last-of more.0 (next_at next n) ns (ap (next_at next) one ∙ more.1)
             (let h = is-graph k more.0 more.1 in omega (arith, h, size)) goes.1 in
             (rest.0, rest.1, rest.2, (k ∷ rest.3.0, (refl, subst (λ a. Goes next a rest.3.0 (Some rest.0)) (sym more.1) rest.3.1)))
       ]
-    where
-      cases_none : (o : Option ℕ) → (o ≡ None) ⊎ ((n : ℕ) × (o ≡ Some n))
-      cases_none None = inl refl
-      cases_none (Some n) = inr (n, refl)
 
   pub leads-out : (k : ℕ) (p : List ℕ) (ns : List ℕ) → slice_get names k ≡ Some p → Goes next (Some k) ns None →
       (q : List ℕ) × LeadsTo report p q × AsksForNone report q
@@ -219,40 +216,6 @@ module _ (R : Circle → Ring → Type 0) where
       let rest = zip-at table rs n c at zipped.1 in
       (rest.0, Contains-append_right (r ∷ []) rs rest.0 rest.1, rest.2)
 
--- no number is on two circles
-module _ (places : List (Option ℕ)) where
-  abbrev AreApart : ℕ → List (Option Circle) → Type 0
-  AreApart base table = (k : ℕ) (c : Circle) → circle_at table k ≡ Some c → AreOnce c.members.items × ((n : ℕ) → IsIn c.members.items n → place_at places n ≡ Some (base + k))
-
-  apart-later : (base : ℕ) (o : Option Circle) (table : List (Option Circle)) → AreApart base (o ∷ table) → AreApart (base + 1) table
-  apart-later base o table apart k c at =
-      let here = apart (suc k) c at in
-      (here.0, λ n is. here.1 n is ∙ ap (λ (m : ℕ). Some m) (let e : base + suc k ≡ (base + 1) + k = omega arith in e))
-
-  in-circles : (base : ℕ) (table : List (Option Circle)) (n : ℕ) → AreApart base table → IsIn (numbers_of (all_circles table)) n → (m : ℕ) × (base ≤ m) × (place_at places n ≡ Some m)
-  in-circles base [] n apart none = absurd none
-  in-circles base (None ∷ table) n apart is =
-      let rest = in-circles (base + 1) table n (apart-later base None table apart) is in
-      (rest.0, omega (arith, rest.1), rest.2)
-  in-circles base (Some c ∷ table) n apart is = elim (in-either c.members.items (numbers_of (all_circles table)) n is) [
-    | inl here ↦ (base + 0, omega arith, (apart 0 c refl).1 n here)
-    | inr later ↦
-        let rest = in-circles (base + 1) table n (apart-later base (Some c) table apart) later in
-        (rest.0, omega (arith, rest.1), rest.2)
-  ]
-
-  pub circles-once : (base : ℕ) (table : List (Option Circle)) → AreApart base table → AreOnce (numbers_of (all_circles table))
-  circles-once base [] apart = tt
-  circles-once base (None ∷ table) apart = circles-once (base + 1) table (apart-later base None table apart)
-  circles-once base (Some c ∷ table) apart =
-      let here = apart 0 c refl in
-      once-both c.members.items (numbers_of (all_circles table)) here.0 (circles-once (base + 1) table (apart-later base (Some c) table apart))
-      (λ n is later.
-      let rest = in-circles (base + 1) table n (apart-later base (Some c) table apart) later in
-      let both : Some (base + 0) ≡ Some rest.0 = sym (here.1 n is) ∙ rest.2 in
-      let one : base + 0 ≡ rest.0 = cc in
-      omega (arith, one, rest.1))
-
 -- a number on a circle is among those of all, and back
 pub in-numbers : (table : List (Option Circle)) (m n : ℕ) (c : Circle) → circle_at table m ≡ Some c → IsIn c.members.items n → IsIn (numbers_of (all_circles table)) n
 in-numbers [] m n c at is = absurd (let bad : None ≡ Some c = at in cc)
@@ -270,6 +233,27 @@ on-circle (Some c ∷ table) n is = elim (in-either c.members.items (numbers_of 
   | inl here ↦ (0, c, refl, here)
   | inr later ↦ let rest = on-circle table n later in (suc rest.0, rest.1, rest.2, rest.3)
 ]
+
+-- each circle has a number once, and no number is on two circles
+abbrev AreApart : List (Option Circle) → Type 0
+AreApart table = (k : ℕ) (c : Circle) → circle_at table k ≡ Some c → AreOnce c.members.items
+    × ((l : ℕ) (d : Circle) (n : ℕ) → circle_at table l ≡ Some d → IsIn c.members.items n → IsIn d.members.items n → k ≡ l)
+
+apart-later : (o : Option Circle) (table : List (Option Circle)) → AreApart (o ∷ table) → AreApart table
+apart-later o table apart k c at =
+    let here = apart (suc k) c at in
+    (here.0, λ l d n there is also. let same : suc k ≡ suc l = here.1 (suc l) d n there is also in cc)
+
+pub circles-once : (table : List (Option Circle)) → AreApart table → AreOnce (numbers_of (all_circles table))
+circles-once [] apart = tt
+circles-once (None ∷ table) apart = circles-once table (apart-later None table apart)
+circles-once (Some c ∷ table) apart =
+    let here = apart 0 c refl in
+    once-both c.members.items (numbers_of (all_circles table)) here.0 (circles-once table (apart-later (Some c) table apart))
+    (λ n is later.
+    let on = on-circle table n later in
+    let same : 0 ≡ suc on.0 = here.1 (suc on.0) on.1 n on.2 is on.3 in
+    omega (arith, same))
 
 -- the numbers of all circles have the paths on all rings
 pub rings-named : (names : List (List ℕ)) (R : Circle → Ring → Type 0) → ((c : Circle) (r : Ring) → R c r → AreNamed names c.members.items r.members.items) →
@@ -412,9 +396,10 @@ module _ (next : List (Option ℕ)) (seen : List Bool) (places : List (Option �
     pub all-once : AreDistinct (on_rings rings)
     all-once =
         named-once names distinct (numbers_of (all_circles circles)) (on_rings rings) all-named
-        (circles-once places 0 circles (λ k c at.
+        (circles-once circles (λ k c at.
         let circle = known.circles k c at in
-        (circle.once, λ n is. circle.placed n is ∙ ap (λ (m : ℕ). Some m) (let e : k ≡ 0 + k = omega arith in e))))
+        (circle.once, λ l d n there is also.
+            let both : Some k ≡ Some l = sym (circle.placed n is) ∙ (known.circles l d there).placed n also in cc)))
 
     abbrev found : List Entry
     found = told_places names names places
