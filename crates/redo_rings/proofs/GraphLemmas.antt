@@ -3,7 +3,7 @@ use Rattle.std.proofs.Common.{◌≡◌, ◌∙◌, ◌+◌, ◌<◌, ◌≢◌,
 use Rattle.std.specs.Prelude.{Contains, slice_index_or}
 use Rattle.std.proofs.lemmas.Bool.{and_parts, cases_Bool, cond_both, or_cases}
 use Rattle.std.proofs.lemmas.List.{get_or-set_same, length-set, map-append, take_more}
-use Rattle.std.proofs.lemmas.List.Elements.{Contains-append_right, filter-append, filter_map-append}
+use Rattle.std.proofs.lemmas.List.Elements.{Contains-append_right, filter-append, filter_map-append, filter_more}
 use Rattle.std.proofs.lemmas.Option.{slice_get-get_or}
 use Rattle.std.specs.Str.{bytes_eq}
 use Rattle.redo_names.specs.Paths.{AreDistinct, IsAmong, is_among}
@@ -27,8 +27,7 @@ pub cyclic-more : (rows : List Row) (i : ℕ) (row : Row) (p : List ℕ) → i <
 cyclic-more rows i row p under is =
     let paths = λ (rs : List Row). map (λ (r : Row). r.path) rs in
     let here = slice_index_or rows i row in
-    ap (λ rs. is_among (paths (cyclic_among rs)) p) (take_more rows i row under)
-    ∙ ap (λ rs. is_among (paths rs) p) (filter-append (λ (r : Row). is_cyclic r.outcome) (take i rows) (here ∷ []))
+    ap (λ rs. is_among (paths rs) p) (filter_more (λ (r : Row). is_cyclic r.outcome) rows i row under)
     ∙ ap (λ ps. is_among ps p) (map-append (λ (r : Row). r.path) (cyclic_among (take i rows)) (cyclic_among (here ∷ [])))
     ∙ is_among-append (paths (cyclic_among (take i rows))) (paths (cyclic_among (here ∷ []))) p
     ∙ ap (λ r. is_among (paths (cyclic_among (take i rows))) p || is_among (paths (cyclic_among (r ∷ []))) p) (sym is)
@@ -45,14 +44,12 @@ module _ (names : List (List ℕ)) where
       shown (numbers ++ n ∷ []) ≡ shown numbers ++ kept (p ∷ [])
   asked-there numbers n p at =
       let told : is_among names p ≡ true = told-among names p (place-among names n p at) in
-      let one : kept (p ∷ []) ≡ Some p ∷ [] = ap (λ b. map (λ (q : List ℕ). Some q) (cond b (p ∷ []) [])) told in
-      map-append (slice_get names) numbers (n ∷ []) ∙ ap (λ o. shown numbers ++ o ∷ []) at ∙ ap (λ l. shown numbers ++ l) (sym one)
+      rw told (map-append (slice_get names) numbers (n ∷ []) ∙ ap (λ o. shown numbers ++ o ∷ []) at)
 
   pub asked-absent : (numbers : List ℕ) (p : List ℕ) → (IsAmong names p → ⊥) → shown numbers ≡ shown numbers ++ kept (p ∷ [])
   asked-absent numbers p absent =
       let told : is_among names p ≡ false = told-absent names p absent in
-      let none : kept (p ∷ []) ≡ [] = ap (λ b. map (λ (q : List ℕ). Some q) (cond b (p ∷ []) [])) told in
-      sym (append-nil (shown numbers)) ∙ ap (λ l. shown numbers ++ l) (sym none)
+      rw told (sym (append-nil (shown numbers)))
 
   -- one entry more
   pub asked-more : (deps : List Dep) (i : ℕ) (d : Dep) → i < length deps → d ≡ slice_index_or deps i d →
