@@ -196,15 +196,15 @@ module _ (clears : Clears) (stores : Stores) (loaded mended : Tree) (options : O
             (clears over loaded mended named is_tree mends others found front rest all now holds))
         | inr some ↦
             let all : clearing over loaded built.given.past.tree
-                ++ steps_to_store mended (journal_of built.given built.whole built.is) files ≡ front ++ rest =
+            ++ steps_to_store mended (journal_of built.given built.whole built.is) files ≡ front ++ rest =
             ap (λ (t : Tree). clearing over loaded t ++ steps_to_store mended (journal_of built.given built.whole built.is) files) (sym back)
             ∙ ap (λ (t : List ℕ). cleared ++ steps_to_store mended t files) (sym text-is')
             ∙ ap (λ (s : Option (List ℕ × List File)). cleared ++ storing mended s) (sym some) ∙ cut in
             stores built.given built.whole built.is start
             (subst (λ (t : Tree). node_at t journal_path ≡ None) back clear.no_journal)
             (λ p temporary.
-                subst (λ (t : Tree). node_at t p ≡ None) back
-                (clear.no_temporary p (ap (λ (t : List ℕ). is_temporary t p) text-is' ∙ temporary)))
+            subst (λ (t : Tree). node_at t p ≡ None) back
+            (clear.no_temporary p (ap (λ (t : List ℕ). is_temporary t p) text-is' ∙ temporary)))
             over mended loaded is_tree (subst (λ (t : Tree). MendsTo loaded t) back mends) others named
             (subst (λ (t : Tree). IsFound loaded t named) back found) files
             (all-to-store loaded mended options report book exit built clear) front rest all now holds

@@ -89,7 +89,7 @@ pub count-of : (ps : List (List ℕ)) (es : List Entry) → AreDistinct (paths_i
 count-of ps es distinct once there =
     let kept = passing (is_among ps) es in
     let few = within-length (paths_in kept) ps (kept-distinct (is_among ps) es distinct)
-        (λ p is. among-told ps p (kept-among (is_among ps) es p is).0) in
+    (λ p is. among-told ps p (kept-among (is_among ps) es p is).0) in
     let many = within-length ps (paths_in kept) once
-        (λ p is. kept-there (is_among ps) es p (told-among ps p is) (there p is)) in
+    (λ p is. kept-there (is_among ps) es p (told-among ps p is) (there p is)) in
     omega (arith, few, many, length-map kept (λ (e : Entry). e.0), length-filter (is_of ps) es)

@@ -397,9 +397,11 @@ module _ (next : List (Option ℕ)) (seen : List Bool) (places : List (Option �
     all-once =
         named-once names distinct (numbers_of (all_circles circles)) (on_rings rings) all-named
         (circles-once circles (λ k c at.
-        let circle = known.circles k c at in
-        (circle.once, λ l d n there is also.
-            let both : Some k ≡ Some l = sym (circle.placed n is) ∙ (known.circles l d there).placed n also in cc)))
+        let circle = known.circles k c at in (
+          circle.once,
+          λ l d n there is also.
+              let both : Some k ≡ Some l = sym (circle.placed n is) ∙ (known.circles l d there).placed n also in cc,
+        )))
 
     abbrev found : List Entry
     found = told_places names names places

@@ -91,9 +91,7 @@ fn run_to<R: Threads + Wait + Sync, W: ByteOut>(
 }
 
 /// A sink that didn't fail, with the whole report of `hello`.
-fn whole_report<R: Threads + Wait + Sync>(
-    host: &mut Host<'_, R, NoObserver>,
-) -> Result<Sink, Fail>
+fn whole_report<R: Threads + Wait + Sync>(host: &mut Host<'_, R, NoObserver>) -> Result<Sink, Fail>
     requires { IsUnused host.old.permit }
 {
     let mut sink = make_sink(host.alloc(), usize::MAX, false);
