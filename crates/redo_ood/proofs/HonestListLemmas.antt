@@ -1,7 +1,6 @@
 -- With an honest book the script of a target of whose record all holds asks only for what the record names.
 use Rattle.std.proofs.Common.{◌≡◌, ◌∙◌, ℕ, suc, Bool, true, false, inl, inr, List, [], Some, None}
 use Rattle.std.proofs.Common.{ap, flat_map, length, refl, subst, sym}
-use Rattle.std.proofs.lemmas.Bool.{cases_Bool}
 use Rattle.redo_names.specs.Paths.{IsAmong}
 use Rattle.redo_record.specs.declared.outcome.Outcome.{Outcome}
 use Rattle.redo_record.specs.declared.outcome.Outcome.TheVariants.{Built}
@@ -19,8 +18,7 @@ use Rattle.redo_skip.proofs.AgreeLemmas.{check-asked, check-kept, finding-all}
 use Rattle.redo_skip.proofs.NeededLemmas.{needed-plain}
 use Rattle.redo_skip.proofs.NewBookLemmas.{are-checks, found-target, honest-checks}
 use Rattle.redo_skip.proofs.SkipLemmas.{outcomes-agree, sound_at}
-use Rattle.redo_why.specs.OutOfDate.{Stale, first_drop, first_unsure}
-use Rattle.redo_why.specs.Reasons.{Altered}
+use Rattle.redo_why.specs.OutOfDate.{first_drop, first_unsure}
 use Rattle.redo_why.specs.Verdicts.{Keeps, verdict}
 use Rattle.redo_why.proofs.KeptLemmas.{kept-at, lost-at}
 use Rattle.redo_why.proofs.ListedLemmas.{check-intact, word-kept}
@@ -31,12 +29,12 @@ use Rattle.redo_why_trees.proofs.TreeWhyLemmas.{honest-records}
 use Rattle.redo_report.specs.Reports.{IsReport}
 use Rattle.redo_report.specs.declared.report.Report.{Report}
 use Rattle.redo_list.specs.Lists.{ListedView}
-use Rattle.redo_ood.specs.Foreseen.{IsFirstAsked, IsHonestGiven, IsListed, IsListedAs, IsNeededIn, IsUnforeseen, Behind, First, end_for, is_new, is_open}
+use Rattle.redo_ood.specs.Foreseen.{IsFirstAsked, IsHonestGiven, IsListed, IsListedAs, IsNeededIn, IsUnforeseen, Behind, First, end_for, is_new}
 use Rattle.redo_ood.specs.Listing.{IsList, RestsOn, changed, listed_at, verdicts_for, word_with}
 use Rattle.redo_ood.proofs.ForeseenLemmas.{asks-changed}
 use Rattle.redo_ood.proofs.ListLemmas.{listed-path}
 use Rattle.redo_ood.proofs.ReportLemmas.{in-list, new-at, recorded-at, target}
-use Rattle.redo_ood.proofs.WordLemmas.{altered-word, entries-word}
+use Rattle.redo_ood.proofs.WordLemmas.{entries-word, told-else}
 use Rattle.redo_list.specs.declared.listed.State.{State}
 
 module _ (given : GivenView) (honest : IsHonestGiven given) where
@@ -148,15 +146,13 @@ module _ (given : GivenView) (honest : IsHonestGiven given) where
         let t = found-target given.past.book p r at in
         let told : (test : State → Bool) → IsListedAs (listed_at given p) p test → IsListed listed p =
         λ test m. listed-path listed p test (in-list given listed list p test on m) in
-        elim (cases_Bool (is_intact last.file r)) [
-          | inr altered ↦ told is_open (recorded-at given p r at (Stale Altered)
-              (altered-word s last given.request r (ap s.is_source t ∙ target given report is p first.begun.needed)
-              (ap s.has_rule t ∙ first.begun.ruled) altered) is_open refl)
-          | inl intact ↦ elim (cases_Option (word_with s last given.request r)) [
-            | inr w ↦ told (λ x. true) (recorded-at given p r at w.0 w.1 (λ x. true) refl)
-            | inl none ↦ absurd (first.unnamed r at
-                (script-named p r at first.begun.needed first.begun.ruled intact none q first.asked))
-          ]
+        elim (cases_Option (word_with s last given.request r)) [
+          | inr w ↦ told (λ x. true) (recorded-at given p r at w.0 w.1 (λ x. true) refl)
+          | inl none ↦
+              let other = ap s.is_source t ∙ target given report is p first.begun.needed in
+              let both = told-else s last given.request r other (λ e. cc) (λ e. cc) in
+              absurd (first.unnamed r at
+              (script-named p r at first.begun.needed first.begun.ruled both.1 none q first.asked))
         ]
 
     -- only a listed target's script asks for what no list can know

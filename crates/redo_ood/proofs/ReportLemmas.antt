@@ -32,7 +32,7 @@ use Rattle.redo_ood.specs.Listing.{IsList, Itself, RestsOn, as_listed, first_wai
 use Rattle.redo_ood.specs.Listing.{verdicts_for, word_with}
 use Rattle.redo_ood.proofs.ForeseenLemmas.{needed-known, rests-asked}
 use Rattle.redo_ood.proofs.ListLemmas.{listed-from, listed-path, listed-to}
-use Rattle.redo_ood.proofs.WordLemmas.{altered-word, lost-word}
+use Rattle.redo_ood.proofs.WordLemmas.{altered-word, told-else}
 
 -- of a word
 
@@ -79,6 +79,14 @@ module _ (given : GivenView) where
       let waited = first_waiting s (checks_for given) (verdicts_for given) r.entries in
       let Q : Option Word → Type 0 = λ o. IsListedAs (listed_if given.past.sources r.target waited o) p is in
       subst P (sym at) (subst Q (sym told) (inl (found-target given.past.book p r at, here)))
+
+  -- one that isn't listed is told nothing
+  pub unsaid : (p : List ℕ) (r : Record) → record_at given.past.book p ≡ Some r →
+      ((is : State → Bool) → IsListedAs (listed_at given p) p is → ⊥) → word_with s last given.request r ≡ None
+  unsaid p r at told = elim (cases_Option (word_with s last given.request r)) [
+    | inl none ↦ none
+    | inr some ↦ absurd (told (λ x. true) (recorded-at p r at some.0 some.1 (λ x. true) refl))
+  ]
 
   no-ring : (q p : List ℕ) (x y : List ℕ) (a b c : Bool) → IsListedAs (if a then [] else if b then as_listed q states.New x
       else if c then as_listed q states.Unknown y else []) p is_ring → ⊥
@@ -144,19 +152,9 @@ module _ (given : GivenView) where
             (word_with s last given.request r ≡ None)
         with-record p r at other told =
             let t = found-target given.past.book p r at in
-            let none : word_with s last given.request r ≡ None = elim (cases_Option (word_with s last given.request r)) [
-              | inl none ↦ none
-              | inr some ↦ absurd (told (λ x. true) (recorded-at p r at some.0 some.1 (λ x. true) refl))
-            ] in
-            let other' : s.is_source r.target ≡ false = ap s.is_source t ∙ other in
-            elim (cases_Bool (s.has_rule r.target)) [
-              | inr lost ↦ absurd (let bad : None ≡ Some Lost = sym none ∙ lost-word s last given.request r other' lost in cc)
-              | inl rule ↦ elim (cases_Bool (is_intact last.file r)) [
-                | inr altered ↦ absurd (
-                    let bad : None ≡ Some (Stale Altered) = sym none ∙ altered-word s last given.request r other' rule altered in cc)
-                | inl intact ↦ (r, at, sym (ap s.has_rule t) ∙ rule, intact, none)
-              ]
-            ]
+            let none = unsaid p r at told in
+            let both = told-else s last given.request r (ap s.is_source t ∙ other) (λ e. cc) (λ e. cc) in
+            (r, at, sym (ap s.has_rule t) ∙ both.0, both.1, none)
 
 -- Of a run, given what words tell of it
 
@@ -253,19 +251,13 @@ module _ (given : GivenView) (report : Report)
         elim (cases_Option (record_at given.past.book p)) [
           | inl none ↦ absurd (told is_new (new-at given p is_new refl (target p needed) rule none))
           | inr some ↦
-              let t = found-target given.past.book p some.0 some.1 in
-              elim (cases_Bool (is_intact run_last.file some.0)) [
-                | inr altered ↦ absurd (told is_open (recorded-at given p some.0 some.1 (Stale Altered)
-                    (altered-word run_s run_last given.request some.0 (ap run_s.is_source t ∙ target p needed)
-                    (ap run_s.has_rule t ∙ rule) altered) is_open refl))
-                | inl intact ↦ elim (cases_Option (word_with run_s run_last given.request some.0)) [
-                  | inr w ↦ absurd (told (λ x. true) (recorded-at given p some.0 some.1 w.0 w.1 (λ x. true) refl))
-                  | inl none ↦
-                      let c = checked p some.0 some.1 needed rule intact unasked in
-                      told-kept given report is p (subst (λ q. IsKept run_s run_last given.request limit q) t
-                      (word-kept some.0 c.check c.needed c.other none)) needed
-                ]
-              ]
+              let r = some.0 in
+              let t = found-target given.past.book p r some.1 in
+              let none = unsaid given p r some.1 told in
+              let both = told-else run_s run_last given.request r (ap run_s.is_source t ∙ target p needed) (λ e. cc) (λ e. cc) in
+              let c = checked p r some.1 needed rule both.1 unasked in
+              told-kept given report is p (subst (λ q. IsKept run_s run_last given.request limit q) t
+              (word-kept r c.check c.needed c.other none)) needed
         ]
 
     -- what is cyclic, given that what is told as a ring is
@@ -279,22 +271,14 @@ module _ (given : GivenView) (report : Report)
         let t = found.2 in
         let other : run_s.is_source r.target ≡ false = ap run_s.is_source t ∙ target p needed in
         let unasked : is_among given.request p ≡ false = told-absent given.request p free in
-        elim (cases_Bool (run_s.has_rule r.target)) [
-          | inr lost ↦ absurd (
-              let bad : Some Ring ≡ Some Lost = sym found.3 ∙ lost-word run_s run_last given.request r other lost in cc)
-          | inl rule ↦ elim (cases_Bool (is_intact run_last.file r)) [
-            | inr altered ↦ absurd (
-                let bad : Some Ring ≡ Some (Stale Altered) =
-                sym found.3 ∙ altered-word run_s run_last given.request r other rule altered in cc)
-            | inl intact ↦
-                let there : IsNeededIn given r.target = subst (IsNeededIn given) (sym t) needed in
-                let both = word-ring r (record {
-                  at = found.1;
-                  ruled = rule;
-                  intact = intact;
-                  unasked = ap (is_among given.request) t ∙ unasked;
-                }) there other found.3 in
-                told-cyclic given report is p (sym (ap (end_for given) t) ∙ both.0)
-                (sym (ap (λ q. booked.begins q (end_for given)) t) ∙ both.1) needed
-          ]
-        ]
+        let ring : word_with run_s run_last given.request r ≡ Some Ring = found.3 in
+        let stands = told-else run_s run_last given.request r other (λ e. cc) (λ e. cc) in
+        let there : IsNeededIn given r.target = subst (IsNeededIn given) (sym t) needed in
+        let both = word-ring r (record {
+          at = found.1;
+          ruled = stands.0;
+          intact = stands.1;
+          unasked = ap (is_among given.request) t ∙ unasked;
+        }) there other ring in
+        told-cyclic given report is p (sym (ap (end_for given) t) ∙ both.0)
+        (sym (ap (λ q. booked.begins q (end_for given)) t) ∙ both.1) needed

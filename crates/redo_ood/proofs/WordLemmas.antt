@@ -36,6 +36,17 @@ module _ (s : Sources) (last : LastRun) (request : List (List ℕ)) where
         ≡ word_of_entries s (checks_of s last request) (verdict_with s last request) r.entries
     entries-word rule intact = rw (other, rule, intact) refl
 
+    -- where neither is told a rule makes it, and it is as the last run left it
+    pub told-else : (word_with s last request r ≡ Some Lost → ⊥) → (word_with s last request r ≡ Some (Stale Altered) → ⊥) →
+        (s.has_rule r.target ≡ true) × (is_intact last.file r ≡ true)
+    told-else not_lost not_altered = elim (cases_Bool (s.has_rule r.target)) [
+      | inr none ↦ absurd (not_lost (lost-word none))
+      | inl rule ↦ elim (cases_Bool (is_intact last.file r)) [
+        | inr altered ↦ absurd (not_altered (altered-word rule altered))
+        | inl intact ↦ (rule, intact)
+      ]
+    ]
+
     -- of a target in check it goes by the verdict
     pub checked-word : IsRecordInCheck s last request r.target r →
         word_with s last request r
@@ -58,31 +69,21 @@ module _ (s : Sources) (last : LastRun) (request : List (List ℕ)) where
     never-lost lost = word-lost _ _ _ (sym (checked-word r other is) ∙ lost)
 
 module _ (s : Sources) (last : LastRun) (request : List (List ℕ)) (r : Record) where
-  source-none : s.is_source r.target ≡ true → word_with s last request r ≡ None
-  source-none source = rw source refl
-
   -- a ring has no verdict by its own entries
   pub ring-verdict : word_with s last request r ≡ Some Ring →
       verdict s (checks_of s last request) (verdict_with s last request) r.entries ≡ None
   ring-verdict ring = elim (cases_Bool (s.is_source r.target)) [
-    | inl source ↦ absurd (let bad : None ≡ Some Ring = sym (source-none source) ∙ ring in cc)
-    | inr other ↦ elim (cases_Bool (s.has_rule r.target)) [
-      | inr none ↦ absurd (let bad : Some Lost ≡ Some Ring = sym (lost-word s last request r other none) ∙ ring in cc)
-      | inl rule ↦ elim (cases_Bool (is_intact last.file r)) [
-        | inr altered ↦ absurd (let bad : Some (Stale Altered) ≡ Some Ring = sym (altered-word s last request r other rule altered) ∙ ring in cc)
-        | inl intact ↦ word-ring _ _ _ (sym (entries-word s last request r other rule intact) ∙ ring)
-      ]
-    ]
+    | inl source ↦ absurd (let bad : None ≡ Some Ring = rw source at ring in cc)
+    | inr other ↦
+        let both = told-else s last request r other (λ e. cc) (λ e. cc) in
+        word-ring _ _ _ (sym (entries-word s last request r other both.0 both.1) ∙ ring)
   ]
 
 -- without a request it is what redo_why lists
 module _ (s : Sources) (last : LastRun) (r : Record) (at : record_at last.book r.target ≡ Some r) where
-  source-word : s.is_source r.target ≡ true → word_with s last [] r ≡ listed s last r.target
-  source-word source = rw source refl
-
   pub every-word : word_with s last [] r ≡ listed s last r.target
   every-word = elim (cases_Bool (s.is_source r.target)) [
-    | inl source ↦ source-word source
+    | inl source ↦ rw source refl
     | inr other ↦ elim (cases s last r.target r other at) [
       | is_lost none told ↦ lost-word s last [] r other none ∙ sym told
       | is_altered rule altered told ↦ altered-word s last [] r other rule altered ∙ sym told
