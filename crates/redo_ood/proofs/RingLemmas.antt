@@ -1,7 +1,7 @@
 -- What a ring waits for.
-use Rattle.std.proofs.Common.{◌≡◌, ◌∙◌, ◌||◌, ℕ, Bool, not, true, false, inl, inr, List, [], ◌∷◌, Option, Some, None}
+use Rattle.std.proofs.Common.{◌≡◌, ◌∙◌, ◌||◌, ℕ, Bool, true, false, inl, inr, List, [], ◌∷◌, Option, Some, None}
 use Rattle.std.proofs.Common.{refl, sym, ap, subst}
-use Rattle.std.proofs.lemmas.Bool.{cases_Bool}
+use Rattle.std.proofs.lemmas.Bool.{cases_Bool, false_from_ne_true, not-true, or_parts, true_from_ne_false}
 use Rattle.std.specs.Prelude.{flat_map}
 use Rattle.redo_names.specs.Paths.{IsAmong, is_among}
 use Rattle.redo_names.proofs.ListLemmas.{IsAmong-left, IsAmong-right}
@@ -19,7 +19,7 @@ use Rattle.redo_why.specs.OutOfDate.{Ring, entry_path, first_drop, first_unsure,
 use Rattle.redo_why.specs.Runs.{IsRecordInCheck, verdict_with}
 use Rattle.redo_why.specs.Verdicts.{Verdict, Keeps, Begins, Either, Verdicts, Mark, Holds, Drops, Unsure, Waits}
 use Rattle.redo_why.specs.Verdicts.{holds_if, mark, mark_asked, mark_checked, verdict}
-use Rattle.redo_ood.specs.Listing.{IsRingOf, changed, first_waiting, waits_by, word_with}
+use Rattle.redo_ood.specs.Listing.{IsRingOf, changed, first_waiting, word_with}
 use Rattle.redo_ood.proofs.ItemLemmas.{requested-unchecked}
 use Rattle.redo_ood.proofs.WordLemmas.{checked-word, ring-verdict}
 
@@ -49,17 +49,13 @@ module _ (s : Sources) (k : Checks) (v : Verdicts) where
   waits-asked false state None x h = absurd (let bad : Drops ≡ Waits = h in cc)
   waits-asked ruled state (Some c) x h = (c, refl, waits-checked (same_state (state_of c.file) state) x h)
 
-  asked-other : (source script : Bool) → not (source || script) ≡ true → source ≡ false
-  asked-other true script h = absurd (let bad : false ≡ true = h in cc)
-  asked-other false script h = refl
-
   waiting : (e : BookEntry) → mark s k v e ≡ Waits → IsWaiting s k v (changed e) (entry_path e)
   waiting (Change state q) h = elim (cases_Bool (is_asked s q)) [
     | inl t ↦
         let found = waits-asked (s.has_rule q) state (k q) (v q) (rw t at h) in
         record {
           named = inl refl;
-          other = asked-other (s.is_source q) (s.is_script q) t;
+          other = (or_parts (s.is_source q) (s.is_script q) (not-true (s.is_source q || s.is_script q) t)).0;
           check = found.0;
           checked = found.1;
           unknown = found.2;
@@ -69,6 +65,15 @@ module _ (s : Sources) (k : Checks) (v : Verdicts) where
   waiting (Create q) h = absurd (never-by (s.is_free q) h)
   waiting Always h = absurd (let bad : Drops ≡ Waits = h in cc)
 
+  wider : (xs ys : List (List ℕ)) (q : List ℕ) → (IsAmong xs q → IsAmong ys q) → IsWaiting s k v xs q → IsWaiting s k v ys q
+  wider xs ys q more is = record {
+    named = more is.named;
+    other = is.other;
+    check = is.check;
+    checked = is.checked;
+    unknown = is.unknown;
+  }
+
   -- a record without a verdict has an entry that waits, and the first is told
   ring-waits : (es : List BookEntry) → verdict s k v es ≡ None → IsWaiting s k v (flat_map changed es) (first_waiting s k v es)
   ring-waits [] h = absurd (let bad : Some Keeps ≡ None = h in cc)
@@ -77,27 +82,13 @@ module _ (s : Sources) (k : Checks) (v : Verdicts) where
       by : (m : Mark) → mark s k v e ≡ m →
           (verdict s k v es ≡ None → IsWaiting s k v (flat_map changed es) (first_waiting s k v es)) → IsWaiting s k v (flat_map changed (e ∷ es)) (first_waiting s k v (e ∷ es))
       by Holds is further =
-          let rest = further (rw is at h) in
-          subst (IsWaiting s k v (flat_map changed (e ∷ es))) (sym (ap (λ m. waits_by e m (first_waiting s k v es)) is))
-          (record {
-            named = IsAmong-right (changed e) (flat_map changed es) (first_waiting s k v es) rest.named;
-            other = rest.other;
-            check = rest.check;
-            checked = rest.checked;
-            unknown = rest.unknown;
-          })
+          rw is (wider (flat_map changed es) (flat_map changed (e ∷ es)) (first_waiting s k v es)
+          (IsAmong-right (changed e) (flat_map changed es) (first_waiting s k v es)) (further (rw is at h)))
       by Drops is further = absurd (let bad : Some Begins ≡ None = rw is at h in cc)
       by Unsure is further = absurd (let bad : Some Either ≡ None = rw is at h in cc)
       by Waits is further =
-          let here = waiting e is in
-          subst (IsWaiting s k v (flat_map changed (e ∷ es))) (sym (ap (λ m. waits_by e m (first_waiting s k v es)) is))
-          (record {
-            named = IsAmong-left (changed e) (flat_map changed es) (entry_path e) here.named;
-            other = here.other;
-            check = here.check;
-            checked = here.checked;
-            unknown = here.unknown;
-          })
+          rw is (wider (changed e) (flat_map changed (e ∷ es)) (entry_path e)
+          (IsAmong-left (changed e) (flat_map changed es) (entry_path e)) (waiting e is))
 
 module _ (s : Sources) (last : LastRun) (request : List (List ℕ)) where
   -- a target that is in check
@@ -109,14 +100,8 @@ module _ (s : Sources) (last : LastRun) (request : List (List ℕ)) where
         record {
           at = at;
           ruled = (are-checks s last request).ruled q c check;
-          intact = elim (cases_Bool (is_intact last.file m)) [
-            | inl t ↦ t
-            | inr f ↦ absurd (let bad : Some c ≡ None = sym check ∙ check-altered s last request q m at f in cc)
-          ];
-          unasked = elim (cases_Bool (is_among request q)) [
-            | inl t ↦ absurd (let bad : Some c ≡ None = sym check ∙ requested-unchecked s last request q t in cc)
-            | inr f ↦ f
-          ];
+          intact = true_from_ne_false (is_intact last.file m) (λ f. let none = check-altered s last request q m at f in cc);
+          unasked = false_from_ne_true (is_among request q) (λ t. let none = requested-unchecked s last request q t in cc);
         },
       )
 
