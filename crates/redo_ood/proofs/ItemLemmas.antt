@@ -1,6 +1,6 @@
 -- The item of an entry, by what the tree tells.
 use Rattle.std.proofs.Common.{◌≡◌, ◌∙◌, ◌<◌, ◌&&◌, ◌++◌, ℕ, zero, suc, Bool, true, false, not, inl, inr, List, [], ◌∷◌, Option, Some, None}
-use Rattle.std.proofs.Common.{arith, refl, sym, ap, subst, length, slice_get, is_some}
+use Rattle.std.proofs.Common.{arith, refl, sym, ap, subst, length, slice_get}
 use Rattle.std.proofs.lemmas.Bool.{cases_Bool}
 use Rattle.std.specs.Option.{option_eq}
 use Rattle.std.specs.Prelude.{if◌then◌else◌, option_and_then}
@@ -11,51 +11,24 @@ use Rattle.redo_tree.specs.Tree.{file_at}
 use Rattle.redo_which.specs.Candidates.{is_do_file}
 use Rattle.redo_which.specs.Rule.{found_of, is_rule}
 use Rattle.redo_book.specs.declared.book.BookEntry.{BookEntry}
-use Rattle.redo_book.specs.declared.book.BookEntry.TheVariants.{Change, Create}
+use Rattle.redo_book.specs.declared.book.BookEntry.TheVariants.{Change}
 use Rattle.redo_book.specs.Book.{Record, record_at}
 use Rattle.redo_book.specs.Intact.{is_intact}
 use Rattle.redo_build.proofs.DepthLemmas.{cases_Option}
 use Rattle.redo_skip.specs.Sources.{Sources}
-use Rattle.redo_skip.specs.Checks.{Check, Checks, has_state, same_state}
+use Rattle.redo_skip.specs.Checks.{Checks, same_state}
 use Rattle.redo_skip.specs.NewBook.{LastRun, check_by, checks_of, is_valid}
 use Rattle.redo_skip.proofs.NewBookLemmas.{are-checks, found-target}
-use Rattle.redo_past.specs.Past.{PastView, intact_record, is_free}
+use Rattle.redo_past.specs.Past.{PastView, intact_record}
 use Rattle.redo_step.specs.Limits.{LimitsView}
 use Rattle.redo_rules.specs.Build.{GivenView, checks_for, last_run_of, sources_for}
 use Rattle.redo_why.proofs.ListedLemmas.{check-altered, check-intact}
-use Rattle.redo_why.specs.Verdicts.{Verdicts, Drops, Unsure, holds_if, mark, mark_checked}
+use Rattle.redo_why.specs.Verdicts.{Drops, Unsure, mark_checked}
 use Rattle.redo_ood.specs.Listing.{run_over}
-use Rattle.redo_ood.specs.inside.Items.{item_if}
 use Rattle.redo_ood.specs.inside.Rows.{AreItems, AreRows, IsItem}
 use Rattle.redo_ood.specs.declared.verdicts.RowItem.{RowItem}
 use Rattle.redo_ood.specs.declared.verdicts.RowItem.TheVariants as items
 use Rattle.redo_ood.specs.declared.verdicts.Row.{Row}
-
--- Marks that don't go by verdicts
-
-module _ (s : Sources) (k : Checks) (book : List Record) where
-  pub marked-if : (e : BookEntry) (b : Bool) → ((v : Verdicts) → mark s k v e ≡ holds_if b) → IsItem s k book e (item_if b)
-  marked-if e true h = h
-  marked-if e false h = h
-
-  module _ (state : State) (q : List ℕ) where
-    pub source-mark : (v : Verdicts) → s.is_source q ≡ true →
-        mark s k v (Change state q) ≡ holds_if (has_state state (Some (s.file q)))
-    source-mark v source = rw source refl
-
-    pub script-mark : (v : Verdicts) → s.is_source q ≡ false → s.is_script q ≡ true → mark s k v (Change state q) ≡ Drops
-    script-mark v none script = rw (none, script) refl
-
-    module _ (v : Verdicts) (none : s.is_source q ≡ false) (other : s.is_script q ≡ false) where
-      pub ruleless-mark : s.has_rule q ≡ false → k q ≡ None → mark s k v (Change state q) ≡ Drops
-      ruleless-mark rule unchecked = rw (none, other, unchecked, rule) refl
-
-      pub unchecked-mark : s.has_rule q ≡ true → k q ≡ None → mark s k v (Change state q) ≡ Unsure
-      unchecked-mark rule unchecked = rw (none, other, unchecked, rule) refl
-
-      pub checked-mark : (c : Check) → k q ≡ Some c →
-          mark s k v (Change state q) ≡ mark_checked (same_state (state_of c.file) state) (v q)
-      checked-mark c check = rw (none, other, check) refl
 
 -- Which targets are in check
 
@@ -127,34 +100,27 @@ module _ (past : PastView) (request : List (List ℕ)) (limits : LimitsView) whe
   abbrev k : Checks
   k = checks_for given
 
-  pub source-item : (state : State) (q bytes : List ℕ) → file_at past.sources q ≡ Some bytes → (b : Bool) →
-      b ≡ option_eq bytes_eq (state_of (Some bytes)) state → IsItem s k past.book (Change state q) (item_if b)
-  source-item state q bytes is b told =
-      marked-if s k past.book (Change state q) b
-      (λ v. source-mark s k past.book state q v (ap is_some is)
-      ∙ ap (λ f. holds_if (has_state state (Some f))) is ∙ ap holds_if (sym told))
-
   pub script-item : (state : State) (q : List ℕ) → file_at past.sources q ≡ None → is_do_file q ≡ true →
       IsItem s k past.book (Change state q) items.Drops
-  script-item state q none script = λ v. script-mark s k past.book state q v (ap is_some none) script
+  script-item state q none script = λ v. rw (none, script) refl
 
   module _ (state : State) (q : List ℕ) (none : file_at past.sources q ≡ None) (other : is_do_file q ≡ false) where
     pub ruleless-item : is_rule (found_of past.sources q) ≡ false → IsItem s k past.book (Change state q) items.Drops
     ruleless-item rule = λ v.
-        ruleless-mark s k past.book state q v (ap is_some none) other rule
-        (ruleless-unchecked s (last_run_of past) request q rule)
+        let unchecked = ruleless-unchecked s (last_run_of past) request q rule in
+        rw (none, other, unchecked, rule) refl
 
     module _ (rule : is_rule (found_of past.sources q) ≡ true) where
       pub requested-item : is_among request q ≡ true → IsItem s k past.book (Change state q) items.Unsure
       requested-item asked = λ v.
-          unchecked-mark s k past.book state q v (ap is_some none) other rule
-          (requested-unchecked s (last_run_of past) request q asked)
+          let unchecked = requested-unchecked s (last_run_of past) request q asked in
+          rw (none, other, unchecked, rule) refl
 
       pub altered-item : is_among request q ≡ false → None ≡ intact_record past q →
           IsItem s k past.book (Change state q) items.Unsure
       altered-item free lost = λ v.
-          unchecked-mark s k past.book state q v (ap is_some none) other rule
-          (altered-unchecked s (last_run_of past) request q (sym lost))
+          let unchecked = altered-unchecked s (last_run_of past) request q (sym lost) in
+          rw (none, other, unchecked, rule) refl
 
       pub checked-item : is_among request q ≡ false → (n : ℕ) → slice_get past.book n ≡ intact_record past q →
           n < length past.book → (same : Bool) → same ≡ option_eq bytes_eq (state_of (file_at past.tree q)) state →
@@ -173,13 +139,10 @@ module _ (past : PastView) (request : List (List ℕ)) (limits : LimitsView) whe
                 in_check = check;
                 at = record { made = made; there = is; found = kept.0 };
                 marked = λ v.
-                    checked-mark s k past.book state q v (ap is_some none) other (check_by (last_run_of past) made) check
-                    ∙ ap (λ p. mark_checked (same_state (state_of (file_at past.tree p)) state) (v q)) (found-target past.book q made kept.0)
-                    ∙ ap (λ b. mark_checked b (v q)) (sym told);
+                    rw (none, other, check)
+                    (ap (λ p. mark_checked (same_state (state_of (file_at past.tree p)) state) (v q)) (found-target past.book q made kept.0)
+                    ∙ ap (λ b. mark_checked b (v q)) (sym told));
               }
-
-  pub create-item : (q : List ℕ) (b : Bool) → b ≡ is_free past.sources q → IsItem s k past.book (Create q) (item_if b)
-  create-item q b told = marked-if s k past.book (Create q) b (λ v. ap holds_if (sym told))
 
 -- Lists of items and rows
 
