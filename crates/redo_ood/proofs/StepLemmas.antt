@@ -1,9 +1,10 @@
 -- A verdict that follows from sound ones may be noted.
-use Rattle.std.proofs.Common.{◌≡◌, ℕ, zero, suc, ◌+◌, ◌<◌, ◌≤◌, Bool, true, false, ◌⊎◌, inl, inr, List, [], ◌∷◌, length}
+use Rattle.std.proofs.Common.{◌≡◌, ℕ, zero, suc, ◌+◌, ◌<◌, ◌≤◌, Bool, true, false, inl, inr, List, [], ◌∷◌, length}
 use Rattle.std.proofs.Common.{Option, Some, None, is_some, slice_get, slice_set, get_or, refl, sym, ap, subst, ◌∙◌, arith}
 use Rattle.std.proofs.lemmas.Bool.{cases_lt, cases_eq}
 use Rattle.std.proofs.lemmas.List.{get_or-set_same, get_or-set_other, get_or_past, length-set}
 use Rattle.std.proofs.lemmas.Option.{slice_get_past, slice_get-get_or}
+use Rattle.redo_build.proofs.DepthLemmas.{cases_Option}
 use Rattle.redo_ood.specs.declared.verdicts.RowItem.{RowItem}
 use Rattle.redo_ood.specs.declared.verdicts.RowItem.TheVariants as items
 use Rattle.redo_ood.specs.declared.verdicts.Verdict.{Verdict}
@@ -12,10 +13,6 @@ use Rattle.redo_ood.specs.declared.verdicts.Row.{Row}
 use Rattle.redo_ood.specs.inside.Verdicts.{Known, in_table, by_verdict, by_item, of_items, of_row, known_at, AreReached}
 use Rattle.redo_ood.specs.inside.Verdicts.{IsSound, IsFixedAt, AreVerdicts, known_count}
 
-pub cases_Option : {A : Type 0} (o : Option A) → (o ≡ None) ⊎ ((v : A) × (o ≡ Some v))
-cases_Option None = inl refl
-cases_Option (Some v) = inr (v, refl)
-
 -- each verdict of the first is one of the second
 abbrev Grows : Option Verdict → Option Verdict → Type 0
 Grows a b = (x : Verdict) → a ≡ Some x → b ≡ Some x
@@ -23,18 +20,12 @@ Grows a b = (x : Verdict) → a ≡ Some x → b ≡ Some x
 by_verdict-grows : (same : Bool) (a b rest more : Option Verdict) → Grows a b → Grows rest more →
     Grows (by_verdict same a rest) (by_verdict same b more)
 by_verdict-grows same None b rest more grows after x is = absurd (let bad : None ≡ Some x = is in cc)
-by_verdict-grows true (Some Keeps) b rest more grows after x is =
-    ap (λ o. by_verdict true o more) (grows Keeps refl) ∙ after x is
-by_verdict-grows false (Some Keeps) b rest more grows after x is =
-    ap (λ o. by_verdict false o more) (grows Keeps refl) ∙ is
-by_verdict-grows true (Some Begins) b rest more grows after x is =
-    ap (λ o. by_verdict true o more) (grows Begins refl) ∙ is
-by_verdict-grows false (Some Begins) b rest more grows after x is =
-    ap (λ o. by_verdict false o more) (grows Begins refl) ∙ is
-by_verdict-grows true (Some Either) b rest more grows after x is =
-    ap (λ o. by_verdict true o more) (grows Either refl) ∙ is
-by_verdict-grows false (Some Either) b rest more grows after x is =
-    ap (λ o. by_verdict false o more) (grows Either refl) ∙ is
+by_verdict-grows true (Some Keeps) b rest more grows after x is = rw (grows Keeps refl) (after x is)
+by_verdict-grows false (Some Keeps) b rest more grows after x is = rw (grows Keeps refl) is
+by_verdict-grows true (Some Begins) b rest more grows after x is = rw (grows Begins refl) is
+by_verdict-grows false (Some Begins) b rest more grows after x is = rw (grows Begins refl) is
+by_verdict-grows true (Some Either) b rest more grows after x is = rw (grows Either refl) is
+by_verdict-grows false (Some Either) b rest more grows after x is = rw (grows Either refl) is
 
 module _ (v w : Known) (grows : (i : ℕ) → Grows (v i) (w i)) where
   item-grows : (i : RowItem) (rest more : Option Verdict) → Grows rest more → Grows (by_item v i rest) (by_item w i more)
@@ -145,7 +136,7 @@ module _ (book : List Row) (table : List (Option Verdict)) (sound : IsSound book
 
   pub next-sound : IsSound book next
   next-sound = record {
-    size = length-next ∙ sound.size;
+    size = length-set table i (Some x) ∙ sound.size;
     reached = λ j y e. elim (cases_eq j i) [
       | inl same ↦
           let one : Some x ≡ Some y = sym here ∙ ap (in_table next) (sym same) ∙ e in
@@ -163,9 +154,6 @@ module _ (book : List Row) (table : List (Option Verdict)) (sound : IsSound book
           (sound.founded j y (sym (away j other) ∙ e))
     ];
   }
-    where
-      length-next : length next ≡ length table
-      length-next = length-set table i (Some x)
 
 count-set : (table : List (Option Verdict)) (i : ℕ) (x : Verdict) → i < length table → get_or table i None ≡ None →
     known_count (slice_set table i (Some x)) ≡ suc (known_count table)
@@ -255,7 +243,3 @@ full-verdicts book table sound full = record {
     | inr past ↦ past-fixed book table sound i past
   ];
 }
-
-pub fixed-verdicts : (book : List Row) (table : List (Option Verdict)) → IsSound book table →
-    ((i : ℕ) → IsFixedAt book (in_table table) i) → AreVerdicts book table
-fixed-verdicts book table sound fixed = record { size = sound.size; reached = sound.reached; fixed = fixed }

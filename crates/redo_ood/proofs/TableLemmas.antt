@@ -1,5 +1,5 @@
 -- What a table of verdicts over the rows of a book has is the verdicts of the book's targets.
-use Rattle.std.proofs.Common.{◌≡◌, ◌∙◌, ◌≤◌, ℕ, zero, suc, Bool, true, false, inl, inr, List, [], ◌∷◌, length}
+use Rattle.std.proofs.Common.{◌≡◌, ◌∙◌, ℕ, zero, suc, Bool, true, false, inl, inr, List, [], ◌∷◌, length}
 use Rattle.std.proofs.Common.{Option, Some, None, slice_get, refl, sym, ap, arith}
 use Rattle.std.proofs.lemmas.Bool.{cases_lt}
 use Rattle.redo_digest.specs.Digest.{state_of}
@@ -33,6 +33,11 @@ by-told true (Some verdicts.Begins) rest = refl
 by-told false (Some verdicts.Begins) rest = refl
 by-told true (Some verdicts.Either) rest = refl
 by-told false (Some verdicts.Either) rest = refl
+
+told-is : (x : CodeVerdict) → (y : Verdict) × (told_as (Some x) ≡ Some y)
+told-is verdicts.Keeps = (Keeps, refl)
+told-is verdicts.Begins = (Begins, refl)
+told-is verdicts.Either = (Either, refl)
 
 told-some : (o : Option CodeVerdict) (y : Verdict) → told_as o ≡ Some y → (x : CodeVerdict) × (o ≡ Some x)
 told-some None y e = absurd cc
@@ -98,7 +103,9 @@ module _ (s : Sources) (last : LastRun) (request : List (List ℕ)) (rows : List
           let there = sym (known-told deep.0 i p c is at) ∙ ap told_as deep.1 in
           ap told_as some.1 ∙ sym (elim (cases_lt deep.0 (length last.book)) [
             | inr above ↦ sym (book-deep-enough s last request deep.0 above p) ∙ there
-            | inl under ↦ to-book deep.0 (omega (arith, under)) (told_as (Some some.0)) some.0 refl there
+            | inl under ↦
+                let y = told-is some.0 in
+                grows-at s k deep.0 (length last.book) (omega (arith, under)) p y.0 (there ∙ y.1) ∙ sym y.1
           ])
       | inl none ↦ elim (cases_Option (verdict_with s last request p)) [
         | inl none' ↦ ap told_as none ∙ sym none'
@@ -109,13 +116,3 @@ module _ (s : Sources) (last : LastRun) (request : List (List ℕ)) (rows : List
             let bad : None ≡ Some known.0 = sym none ∙ below (length last.book) i known.0 known.1 in cc)
       ]
     ]
-      where
-        to-book : (n : ℕ) → n ≤ length last.book → (o : Option Verdict) (x : CodeVerdict) → o ≡ told_as (Some x) →
-            verdict_at s k n p ≡ o → verdict_with s last request p ≡ o
-        to-book n h None x e there = absurd (none-told x (sym e))
-          where
-            none-told : (x : CodeVerdict) → told_as (Some x) ≡ None → ⊥
-            none-told verdicts.Keeps e = let bad : Some Keeps ≡ None = e in cc
-            none-told verdicts.Begins e = let bad : Some Begins ≡ None = e in cc
-            none-told verdicts.Either e = let bad : Some Either ≡ None = e in cc
-        to-book n h (Some y) x e there = grows-at s k n (length last.book) h p y there
