@@ -1,6 +1,7 @@
 -- Paths of a set, in path order.
-use Rattle.std.proofs.Common.{◌≡◌, ◌∙◌, true, false, inl, inr, ℕ, List, [], ◌∷◌, refl, sym, ap, subst}
-use Rattle.std.proofs.lemmas.Bool.{cases_Bool}
+use Rattle.std.proofs.Common.{◌≡◌, ◌∙◌, false, inl, inr, ℕ, List, [], ◌∷◌, refl, sym, ap, subst}
+use Rattle.std.proofs.lemmas.Bool.{false_from_ne_true}
+use Rattle.std.proofs.lemmas.Bool.Decides.{Decides-like, same_from_decides}
 use Rattle.std.proofs.lemmas.List.Kept.{IsStrictlySortedBy-dedup}
 use Rattle.std.proofs.lemmas.List.Sorted.{Contains-permutation, IsPermutation-sym}
 use Rattle.std.proofs.lemmas.Map.Keys.{IsDistinct-IsPermutation}
@@ -35,10 +36,7 @@ same-among ps qs p same = (moved qs ps p (IsPermutation-sym ps qs same), moved p
 differs : (ps : List (List ℕ)) (p : List ℕ) → (IsAmong ps p → ⊥) → AllByRecursion (λ q. bytes_eq p q ≡ false) ps
 differs [] p none = tt
 differs (q ∷ ps) p none = (
-  elim (cases_Bool (bytes_eq p q)) [
-    | inl t ↦ absurd (none (inl (sym ((bytes_eq-Decides p q).0 t))))
-    | inr f ↦ f
-  ],
+  false_from_ne_true (bytes_eq p q) (λ t. none (inl (sym ((bytes_eq-Decides p q).0 t)))),
   differs ps p (λ m. none (inr m)),
 )
 
@@ -48,13 +46,9 @@ distinct [] once = tt
 distinct (p ∷ ps) once = (differs ps p once.0, distinct ps once.1)
 
 flips : (p q : List ℕ) → bytes_eq p q ≡ bytes_eq q p
-flips p q = elim (cases_Bool (bytes_eq p q)) [
-  | inl t ↦ t ∙ sym ((bytes_eq-Decides q p).1 (sym ((bytes_eq-Decides p q).0 t)))
-  | inr f ↦ elim (cases_Bool (bytes_eq q p)) [
-    | inl t ↦ absurd (let bad : true ≡ false = sym ((bytes_eq-Decides p q).1 (sym ((bytes_eq-Decides q p).0 t))) ∙ f in cc)
-    | inr g ↦ f ∙ sym g
-  ]
-]
+flips p q =
+    same_from_decides (bytes_eq p q) (bytes_eq q p) (bytes_eq-Decides p q)
+    (Decides-like (bytes_eq q p) (λ e. sym e) (λ e. sym e) (bytes_eq-Decides q p))
 
 undoubled-from : (p : List ℕ) (ps : List (List ℕ)) → AllByRecursion (λ q. bytes_eq p q ≡ false) ps → IsDistinct bytes_eq ps →
     dedup_from bytes_eq p ps ≡ p ∷ ps

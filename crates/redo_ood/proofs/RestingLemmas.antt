@@ -1,17 +1,17 @@
 -- The paths that were found, and what they rest on.
-use Rattle.std.proofs.Common.{◌≡◌, ◌∙◌, ◌+◌, ◌<◌, ◌≤◌, ◌↔◌, ◌++◌, ℕ, zero, suc, true, false, inl, inr, List, [], ◌∷◌}
-use Rattle.std.proofs.Common.{Some, None, arith, refl, sym, ap, subst, length, slice_get, slice_index_or, take}
+use Rattle.std.proofs.Common.{◌≡◌, ◌∙◌, ◌+◌, ◌<◌, ◌≤◌, ◌↔◌, ◌++◌, ℕ, true, false, inl, inr, List, [], ◌∷◌}
+use Rattle.std.proofs.Common.{Some, arith, sym, ap, subst, length, slice_get, slice_index_or, take}
 use Rattle.std.proofs.lemmas.Bool.{cases_Bool, cases_lt}
-use Rattle.std.proofs.lemmas.List.{take_more}
+use Rattle.std.proofs.lemmas.List.{append-nil, take_more}
 use Rattle.std.proofs.lemmas.List.Concat.{flat_map-append}
-use Rattle.std.proofs.lemmas.Option.{slice_get_within}
+use Rattle.std.proofs.lemmas.Option.{slice_get-get_or, slice_get_within}
 use Rattle.std.specs.Prelude.{flat_map}
 use Rattle.redo_names.specs.Paths.{IsAmong, is_among, with_path}
+use Rattle.redo_names.proofs.IndexLemmas.{still-there}
 use Rattle.redo_names.proofs.ListLemmas.{IsAmong-append, IsAmong-left, IsAmong-right}
 use Rattle.redo_names.proofs.PathLemmas.{among-place, among-told, place-among, put-new, put-there, told-among}
 use Rattle.redo_which.specs.Rule.{found_of, is_rule}
 use Rattle.redo_book.specs.declared.book.BookEntry.{BookEntry}
-use Rattle.redo_book.specs.declared.book.BookEntry.TheVariants.{Change, Create, Always}
 use Rattle.redo_book.specs.Book.{record_at}
 use Rattle.redo_build.proofs.DepthLemmas.{cases_Option}
 use Rattle.redo_rules.specs.Build.{GivenView}
@@ -19,11 +19,6 @@ use Rattle.redo_ood.specs.Listing.{RestsOn, Itself, Through, changed}
 use Rattle.redo_ood.specs.inside.Resting.{AreFound, IsGrown, changes_in, changes_of}
 
 -- Lists that grow
-
-kept-left : (ps qs : List (List ℕ)) (i : ℕ) (p : List ℕ) → slice_get ps i ≡ Some p → slice_get (ps ++ qs) i ≡ Some p
-kept-left [] qs i p h = absurd (let bad : None ≡ Some p = h in cc)
-kept-left (x ∷ ps) qs zero p h = h
-kept-left (x ∷ ps) qs (suc i) p h = kept-left ps qs i p h
 
 pub grown-none : (qs : List (List ℕ)) → IsGrown qs [] qs
 grown-none qs = record { only = λ p m. inl m; more = λ p m. absurd m; kept = λ i p h. h }
@@ -39,7 +34,7 @@ grown-new : (qs : List (List ℕ)) (x : List ℕ) → IsGrown qs (x ∷ []) (qs 
 grown-new qs x = record {
   only = λ p m. IsAmong-append qs (x ∷ []) p m;
   more = λ p m. IsAmong-right qs (x ∷ []) p m;
-  kept = λ i p h. kept-left qs (x ∷ []) i p h;
+  kept = λ i p h. still-there qs x i p h;
 }
 
 pub grown-one : (qs : List (List ℕ)) (x : List ℕ) → IsGrown qs (x ∷ []) (with_path qs x)
@@ -75,12 +70,7 @@ changes-more es i e below is =
     ap (flat_map changed) (take_more es i e below)
     ∙ flat_map-append changed (take i es) (slice_index_or es i e ∷ [])
     ∙ ap (λ y. flat_map changed (take i es) ++ flat_map changed (y ∷ [])) (sym is)
-    ∙ ap (λ ps. flat_map changed (take i es) ++ ps) (alone e)
-  where
-    alone : (y : BookEntry) → flat_map changed (y ∷ []) ≡ changed y
-    alone (Change state q) = refl
-    alone (Create q) = refl
-    alone Always = refl
+    ∙ ap (λ ps. flat_map changed (take i es) ++ ps) (append-nil (changed e))
 
 -- What was found
 
@@ -116,11 +106,10 @@ module _ (given : GivenView) where
     followed = λ i x q below here m. elim (cases_lt i n) [
       | inl under ↦
           let within : i < length old = omega (arith, slice_get_within old n p at) in
-          let y = place-of old i within in
-          let same : Some y.0 ≡ Some x = sym (grown.kept i y.0 y.1) ∙ here in
-          let one : y.0 ≡ x = cc in
+          let old_at : slice_get old i ≡ Some (slice_index_or old i []) = slice_get-get_or old i [] within in
+          let same : Some (slice_index_or old i []) ≡ Some x = sym (grown.kept i (slice_index_or old i []) old_at) ∙ here in
           grown-among old (changes_in given.past p) new grown q
-          (are.followed i x q under (y.1 ∙ same) m)
+          (are.followed i x q under (old_at ∙ same) m)
       | inr above ↦
           let last : i ≡ n = omega arith in
           let same : Some p ≡ Some x = sym (grown.kept n p at) ∙ sym (ap (slice_get new) last) ∙ here in
@@ -128,11 +117,6 @@ module _ (given : GivenView) where
           grown.more q (subst (λ y. IsAmong (changes_in given.past y) q) (sym one) m)
     ];
   }
-    where
-      place-of : (ps : List (List ℕ)) (i : ℕ) → i < length ps → (y : List ℕ) × (slice_get ps i ≡ Some y)
-      place-of [] i h = absurd (omega arith)
-      place-of (x ∷ ps) zero h = (x, refl)
-      place-of (x ∷ ps) (suc i) h = place-of ps i (omega arith)
 
   module _ (found : List (List ℕ)) (n : ℕ) (are : AreFound given found n) (all : length found ≤ n) where
     all-found : {p : List ℕ} → RestsOn given p → IsAmong found p
