@@ -17,7 +17,13 @@ OPTIONS = ["--headless=new", "--remote-debugging-pipe", "--disable-gpu", "--no-f
            "--disable-background-networking", "--disable-component-update", "--disable-extensions",
            "--disable-dev-shm-usage", "--window-size=1200,900"]
 # The numbers of the keys that tests press, beside letters.
-KEYS = {"Tab": 9, "Enter": 13, " ": 32}
+KEYS = {"Tab": 9, "Enter": 13, "Escape": 27, " ": 32, "End": 35, "Home": 36, "ArrowLeft": 37, "ArrowUp": 38,
+        "ArrowRight": 39, "ArrowDown": 40}
+# The place of an element's beginning, after it was brought into sight.
+PLACE = """(() => { const it = document.querySelector(%s);
+it.scrollIntoView({ block: 'nearest', inline: 'nearest' });
+const at = it.getClientRects()[0];
+return [at.x + Math.min(at.width, 40) / 2, at.y + at.height / 2] })()"""
 
 
 def browser():
@@ -135,15 +141,30 @@ class Chromium:
         time.sleep(0.2)
         self.settle()
 
+    def mouse(self, kind, x, y, **more):
+        self.call("Input.dispatchMouseEvent", type=kind, x=x, y=y, **{"button": "left", "clickCount": 1, **more})
+
     def click(self, selector):
         """Clicks near the beginning of an element's first line."""
-        x, y = self.run("(() => { const it = document.querySelector(%s); it.scrollIntoView({ block: 'center' });"
-                        " const at = it.getClientRects()[0];"
-                        " return [at.x + Math.min(at.width, 40) / 2, at.y + at.height / 2] })()"
-                        % json.dumps(selector))
-        for kind in ("mousePressed", "mouseReleased"):
-            self.call("Input.dispatchMouseEvent", type=kind, x=x, y=y, button="left", clickCount=1)
+        x, y = self.run(PLACE % json.dumps(selector))
+        for kind in "mousePressed", "mouseReleased":
+            self.mouse(kind, x, y)
         self.settle()
+
+    def drag(self, selector, across):
+        """Moves the mouse, with its button pressed, from an element's beginning."""
+        x, y = self.run(PLACE % json.dumps(selector))
+        self.mouse("mousePressed", x, y)
+        for step in range(1, 6):
+            self.mouse("mouseMoved", x + across * step / 5, y, buttons=1)
+        self.mouse("mouseReleased", x + across, y)
+        self.settle()
+
+    def wheel(self, selector, down, **more):
+        """Turns the wheel over an element's beginning."""
+        x, y = self.run(PLACE % json.dumps(selector))
+        self.mouse("mouseWheel", x, y, deltaX=0, deltaY=down, **more)
+        self.rest_a_while()
 
     def close(self):
         try:

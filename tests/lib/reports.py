@@ -60,6 +60,17 @@ def whole(head, files):
     return b"".join([head[: -len(b"end\n")], *texts, b"end\n"])
 
 
+# What differs from run to run in the run of a report as JSON.
+VARYING = "version", "directory", "began", "milliseconds"
+
+
+def steady(report):
+    """The value of a report as JSON, without what differs from run to run. A list has no run."""
+    if "run" not in report:
+        return report
+    return {**report, "run": {name: it for name, it in report["run"].items() if name not in VARYING}}
+
+
 def in_order(paths):
     return sorted(paths, key=os.fsencode)
 
@@ -231,13 +242,20 @@ def stale(tree, requested, head):
     ]
 
 
-def dead(tree, requested, status, head):
-    """What is noted of the files that builds left and that a build of `all` needs no more, where it goes well."""
+def dead_files(tree, requested, status, head):
+    """The files that builds left and that a build of `all` needs no more, where it goes well."""
+    if status or "all" not in requested:
+        return []
     rows = {os.fsdecode(path) for path in became(head)}
     stated, book = states(tree), book_of(tree)
     made = {target: at for target, (at, _) in (records(book) if book is not None else {}).items()}
-    left = [path for path, at in made.items() if at != "none" and stated.get(path) == at and path not in rows]
-    if status or not left or "all" not in requested:
+    return [path for path, at in made.items() if at != "none" and stated.get(path) == at and path not in rows]
+
+
+def dead(tree, requested, status, head):
+    """What is noted of them."""
+    left = dead_files(tree, requested, status, head)
+    if not left:
         return []
     words = "".join(" " + path for path in requested) if len(requested) > 1 else ""
     files = "1 file that builds left is" if len(left) == 1 else f"{len(left)} files that builds left are"

@@ -22,7 +22,9 @@ use std::rt::Runtime;
 pub(crate) struct After<'a> {
     pub(crate) build: &'a BuildOptions,
     pub(crate) voice: Voice,
-    /// How long it took, if that is to be said.
+    /// When it began, if that is told and known.
+    pub(crate) began: Option<String>,
+    /// How long it took, if that is told and known.
     pub(crate) milliseconds: Option<u64>,
 }
 
@@ -184,7 +186,7 @@ pub(crate) fn say_after<H: Runtime>(
     if after.voice.notes || build.strict {
         let text = text_of(alloc, &found.notes, MOST_NOTES)?;
         after.voice.note(rt, &shown_lines(alloc, &text)?);
-        note_dead(rt, alloc, after, found.dead)?;
+        note_dead(rt, alloc, after, found.dead.len())?;
     }
     if after.voice.notes {
         say_echoes(rt, alloc, after, past, report)?;
@@ -193,7 +195,7 @@ pub(crate) fn say_after<H: Runtime>(
     if let (true, Input::Directory(dir)) = (after.voice.notes, &build.input) {
         note_book_above(rt, alloc, after, dir)?;
     }
-    if let Some(milliseconds) = after.milliseconds {
+    if let (true, Some(milliseconds)) = (after.voice.summary, after.milliseconds) {
         say_summary(rt, alloc, after, built, milliseconds)?;
     }
     Ok(())

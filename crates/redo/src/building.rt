@@ -5,7 +5,8 @@ ghost use Rattle.redo_core.specs.Permits.{IsUnused};
 
 use crate::after::{After, Built, say_after, warn_of_book_above};
 use crate::behind::{Behind, Watched};
-use crate::formats::print_report;
+use crate::clock::time_of_day;
+use crate::formats::{print_report, tells_run};
 use crate::found::{Found, find};
 use crate::passing::note_names;
 use crate::progress::Progress;
@@ -17,7 +18,7 @@ use redo_dir::{Lockable, SystemDir};
 use redo_line::{BuildOptions, Format, Input, Storing, Voice};
 use redo_path::Path;
 use redo_run::{BundleRun, Cause, DirRun, Exit, Host, Said, preview_dir, run_bundle, run_dir};
-use std::alloc::Global;
+use std::alloc::{AllocError, Global};
 use std::io::{BufWriter, ErrorKind, Write};
 use std::rt::Runtime;
 use std::sync::Wait;
@@ -39,6 +40,18 @@ pub(crate) struct DirBuild {
     pub(crate) taken: Vec<Path>,
 }
 
+/// When a build begins, if it is told and the clock tells it.
+fn began_for<H: Runtime>(
+    rt: &H,
+    alloc: Global,
+    build: &BuildOptions,
+) -> Result<Option<String>, AllocError> {
+    if !tells_run(build.format) {
+        return Ok(None);
+    }
+    time_of_day(rt, alloc)
+}
+
 /// Builds targets, and returns whether all went well.
 pub(crate) fn build<H: Runtime + Threads + Wait + Sync>(
     host: &mut Host<'_, H, Progress<'_>>,
@@ -51,6 +64,7 @@ where
     H::Dir: Send,
     requires permit { IsUnused host.old.permit }
 {
+    let began = began_for(host.rt, host.alloc(), build)?;
     let outcome = match build.format {
         Format::Report => build_and_write(host, build, io::writer(host.rt), cause),
         // The report is made of what the build returns.
@@ -62,6 +76,7 @@ where
     let after = After {
         build,
         voice,
+        began,
         milliseconds: host.observer.milliseconds(),
     };
     match outcome? {
@@ -124,7 +139,7 @@ fn end_over_bundle<H: Runtime>(
         good,
     };
     let found = find_for(alloc, after, &built)?;
-    print_report(rt, alloc, after.build, &built, &found)?;
+    print_report(rt, alloc, after, &built, &found)?;
     Ok(say_found(rt, alloc, after, &built, &found)? && good)
 }
 
@@ -143,7 +158,7 @@ fn end_over_dir<H: Runtime>(
         good,
     };
     let found = find_for(alloc, after, &built)?;
-    print_report(rt, alloc, after.build, &built, &found)?;
+    print_report(rt, alloc, after, &built, &found)?;
     note_passed(rt, run.passed);
     if let (true, Input::Directory(dir)) = (run.passed != 0, &after.build.input) {
         note_names(rt, alloc, after.voice, dir, run.past.tree());

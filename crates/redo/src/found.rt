@@ -2,9 +2,11 @@
 
 use crate::after::Built;
 use crate::status;
+use redo_clean::CleanPlan;
 use redo_dead::dead_plan;
 use redo_line::BuildOptions;
 use redo_notes::{Notes, notes};
+use redo_path::Path;
 use redo_run::DEFAULT_TARGET;
 use std::alloc::{AllocError, Global};
 
@@ -12,8 +14,8 @@ use std::alloc::{AllocError, Global};
 #[derive(Drop)]
 pub(crate) struct Found {
     pub(crate) notes: Notes,
-    /// How many built files this build doesn't need; 0 unless it is a good build of `all`.
-    pub(crate) dead: usize,
+    /// The built files that this build doesn't need, in path order; none unless it is a good build of `all`.
+    pub(crate) dead: Vec<Path>,
     /// Whether `--strict` isn't given, or has nothing to refuse.
     pub(crate) is_fine: bool,
 }
@@ -25,18 +27,22 @@ impl Found {
     }
 }
 
-/// Counts the built files that this build doesn't need. Returns 0 unless it is a good build of `all`: other builds
+/// Finds the built files that this build doesn't need. There are none unless it is a good build of `all`: other builds
 /// may need them, and what a failed target needs isn't known.
-fn dead_of(alloc: Global, build: &BuildOptions, built: &Built<'_>) -> Result<usize, AllocError> {
+fn dead_of(
+    alloc: Global,
+    build: &BuildOptions,
+    built: &Built<'_>,
+) -> Result<Vec<Path>, AllocError> {
     let is_of_all = build
         .targets
         .iter()
         .any(|target| target.text() == DEFAULT_TARGET);
     if !built.good || !is_of_all {
-        return Ok(0);
+        return Ok(Vec::new(alloc));
     }
-    let plan = dead_plan(alloc, built.past, built.report)?;
-    Ok(plan.generated.len())
+    let CleanPlan { generated, .. } = dead_plan(alloc, built.past, built.report)?;
+    generated.into_iter().map(|file| file.0).collect(alloc)
 }
 
 /// Finds what there is beside a report.
@@ -47,7 +53,7 @@ pub(crate) fn find(
 ) -> Result<Found, AllocError> {
     let notes = notes(alloc, built.past, &build.targets, built.report)?;
     let dead = dead_of(alloc, build, built)?;
-    let is_fine = !build.strict || (notes.is_empty() && dead == 0);
+    let is_fine = !build.strict || (notes.is_empty() && dead.is_empty());
     Ok(Found {
         notes,
         dead,

@@ -11,6 +11,7 @@ mod behind;
 mod building;
 mod causes;
 mod cleaning;
+mod clock;
 mod damaged;
 mod dead;
 mod diagnosing;
@@ -28,6 +29,7 @@ mod taking;
 mod unpacking;
 mod version;
 
+use formats::tells_run;
 use progress::Progress;
 use redo_bundle::Plain;
 use redo_core::permit::Permit;
@@ -58,7 +60,7 @@ fn main(rt: HostRuntime) -> ExitCode {
         return ExitCode::from(tell_fault(&rt, Fault::Memory));
     };
     let mut cause = Cause::new(alloc);
-    let progress = Progress::new(&rt, voice);
+    let progress = Progress::new(&rt, voice, is_timed(&action, voice));
     let mut host = Host {
         rt: &rt,
         permit: Permit::new(&rt, alloc),
@@ -91,6 +93,14 @@ fn with_request(alloc: Global, action: Action) -> Result<Action, AllocError> {
             Ok(Action::Dead(Dead { build, ..dead }))
         }
         action => Ok(action),
+    }
+}
+
+/// Whether it is told how long the build takes.
+fn is_timed(action: &Action, voice: Voice) -> bool {
+    match action {
+        Action::Build(build) => voice.summary || tells_run(build.format),
+        _ => voice.summary,
     }
 }
 

@@ -25,7 +25,7 @@ pub(crate) struct Progress<'a> {
     rt: &'a HostRuntime,
     /// Whether a line is shown.
     is_shown: bool,
-    /// When the build began; none if nothing is to be shown.
+    /// When the build began; none if it isn't timed.
     began: Option<Instant>,
     /// How many events to skip between two readings of the clock. A reading may cost more than a short script.
     stride: AtomicU64,
@@ -38,9 +38,9 @@ pub(crate) struct Progress<'a> {
 }
 
 impl<'a> Progress<'a> {
-    /// The progress of a build that begins now.
-    pub(crate) fn new(rt: &'a HostRuntime, voice: Voice) -> Progress<'a> {
-        let began = if voice.summary {
+    /// The progress of a build that begins now, and is timed if `is_timed`.
+    pub(crate) fn new(rt: &'a HostRuntime, voice: Voice, is_timed: bool) -> Progress<'a> {
+        let began = if is_timed {
             Instant::now(rt).ok()
         } else {
             None
@@ -56,7 +56,7 @@ impl<'a> Progress<'a> {
         }
     }
 
-    /// How many milliseconds ago the build began, if that is to be shown.
+    /// How many milliseconds ago the build began, if it is timed.
     pub(crate) fn milliseconds(&self) -> Option<u64> {
         let elapsed = self.began?.elapsed(self.rt).ok()?;
         u64::try_from(elapsed.as_millis()).ok()

@@ -2,7 +2,6 @@
 use Rattle.std.proofs.Common.{◌≡◌, ◌∙◌, ◌+◌, ◌<◌, ◌||◌, ℕ, Bool, true, false, cond, List, [], ◌∷◌, ◌++◌, refl, sym, ap, filter}
 use Rattle.std.proofs.Common.{Option, Some, None, length, map, take, slice_index_or}
 use Rattle.std.proofs.lemmas.List.{map-append, take_more}
-use Rattle.std.proofs.lemmas.List.Elements.{filter_map-append}
 use Rattle.std.specs.List.{cons_option}
 use Rattle.std.specs.Prelude.{filter_map, option_map}
 use Rattle.std.specs.Str.{bytes_eq}
@@ -29,15 +28,6 @@ row-more rows qs i x p within is same =
     ∙ ap (λ y. is_among (paths-of (take i rows) ++ y.path ∷ []) p) is
     ∙ ap (λ qs. is_among qs p) (sym (map-append (λ row. row.path) (take i rows) (slice_index_or rows i x ∷ [])))
     ∙ ap (λ l. is_among (paths-of l) p) (sym (take_more rows i x within))
-
-module _ {X Y Z : Type 0} where
-  -- one record more
-  pub found-more : (f : Y → Option Z) (g : X → Y) (xs : List X) (i : ℕ) (x : X) → i < length xs → x ≡ slice_index_or xs i x → filter_map f (map g (take (i + 1) xs)) ≡ filter_map f (map g (take i xs)) ++ cons_option (f (g x)) []
-  found-more f g xs i x below is =
-      ap (λ ys. filter_map f (map g ys)) (take_more xs i x below)
-      ∙ ap (filter_map f) (map-append g (take i xs) (slice_index_or xs i x ∷ []))
-      ∙ filter_map-append f (map g (take i xs)) (g (slice_index_or xs i x) ∷ [])
-      ∙ ap (λ y. filter_map f (map g (take i xs)) ++ cons_option (f (g y)) []) (sym is)
 
 -- the file of a record, in front of those of the records behind it
 dead-first : (told : List ℕ → Bool) (p : List ℕ) (t g : Bool) (file : Option (List ℕ)) (left files : List File) → told p ≡ t → left ≡ filter (is_untold told) files →

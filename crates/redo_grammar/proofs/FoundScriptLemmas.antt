@@ -25,7 +25,7 @@ use Rattle.redo_script.proofs.BitLemmas.{never, injected}
 use Rattle.redo_grammar.proofs.ByteLemmas.{bind_ok}
 use Rattle.redo_script.proofs.NameLemmas.{item, spells_is}
 use Rattle.redo_grammar.proofs.CommandLemmas.{none_some}
-use Rattle.redo_grammar.proofs.OneTokenLemmas.{in_place, awaiting_then, behind, past_done, else_read, command_begins}
+use Rattle.redo_grammar.proofs.OneTokenLemmas.{in_place, awaiting_then, behind, command_begins}
 use Rattle.redo_grammar.proofs.OnlyScriptLemmas.{with_finish, with_both}
 use Rattle.redo_script.specs.declared.fault.Reason.TheVariants as reasons
 
@@ -41,14 +41,10 @@ record Separated (R : List Token → Type 0) (ts : List Token) : Type 0 where
   is : Separates ts next
   goes : R next
 
-record AtFi (E : List Token → Type 0) (ts : List Token) : Type 0 where
+-- this word comes next, and what follows goes on so
+record At (name : List ℕ) (E : List Token → Type 0) (ts : List Token) : Type 0 where
   rest : List Token
-  is : IsKeyword (codes "fi") ts rest
-  goes : E rest
-
-record AtDone (E : List Token → Type 0) (ts : List Token) : Type 0 where
-  rest : List Token
-  is : IsKeyword (codes "done") ts rest
+  is : IsKeyword name ts rest
   goes : E rest
 
 record AtElse (n : Nest) (E : Script → List Token → Type 0) (ts : List Token) : Type 0 where
@@ -57,7 +53,7 @@ record AtElse (n : Nest) (E : Script → List Token → Type 0) (ts : List Token
   ends : List Token
   is : IsKeyword (codes "else") ts begins
   block : IsBlock n begins second ends
-  goes : AtFi (E second) ends
+  goes : At (codes "fi") (E second) ends
 
 -- some commands more, or none, and then what closes the branch or the loop
 record Part (n : Nest) (s : Script) (ts : List Token) (K : Script → List Token → Type 0) : Type 0 where
@@ -71,9 +67,9 @@ abbrev nest_of : List Open → Nest
 nest_of os = nest_in (openings os)
 
 abbrev Closes : Open → Nest → (Script → List Token → Type 0) → Script → List Token → Type 0
-Closes (open_if l c None before) n E branch mid = AtFi (E (closed (open_if l c None before) branch)) mid ⊎ AtElse n (λ second. E (closed (open_if l c (Some branch) before) second)) mid
-Closes (open_if l c (Some f) before) n E branch mid = AtFi (E (closed (open_if l c (Some f) before) branch)) mid
-Closes (open_loop l name ws before) n E body mid = AtDone (E (closed (open_loop l name ws before) body)) mid
+Closes (open_if l c None before) n E branch mid = At (codes "fi") (E (closed (open_if l c None before) branch)) mid ⊎ AtElse n (λ second. E (closed (open_if l c (Some branch) before) second)) mid
+Closes (open_if l c (Some f) before) n E branch mid = At (codes "fi") (E (closed (open_if l c (Some f) before) branch)) mid
+Closes (open_loop l name ws before) n E body mid = At (codes "done") (E (closed (open_loop l name ws before) body)) mid
 
 abbrev EndsAll : List Open → Script → List Token → Script → Type 0
 EndsAll [] s ts script = (ts ≡ []) × (s ≡ script)
@@ -105,10 +101,8 @@ record InCommand (b : PartialCommand) (os : List Open) (s : Script) (ts : List T
   known : knows (names_in os) items r ≡ true
   goes : Ended os (with_last s (simple b.line c finish)) rest script
 
-record AtThen (l : ℕ) (c : Condition) (os : List Open) (s : Script) (ts : List Token) (script : Script) : Type 0 where
-  rest : List Token
-  is : IsKeyword (codes "then") ts rest
-  goes : Rest (open_if l c None s ∷ os) finish rest script
+abbrev AtThen : ℕ → Condition → List Open → Script → List Token → Script → Type 0
+AtThen l c os s ts script = At (codes "then") (λ rest. Rest (open_if l c None s ∷ os) finish rest script) ts
 
 record InCondition (b : PartialCommand) (os : List Open) (s : Script) (ts : List Token) (script : Script) : Type 0 where
   items : List Item
@@ -135,10 +129,8 @@ record BehindIf (l : ℕ) (os : List Open) (s : Script) (ts : List Token) (scrip
   is : ts ≡ word k p w ∷ others
   goes : InCondition (begin_command l (item p w)) os s others script
 
-record AtDo (l : ℕ) (name : List ℕ) (ws : List Word) (os : List Open) (s : Script) (ts : List Token) (script : Script) : Type 0 where
-  rest : List Token
-  is : IsKeyword (codes "do") ts rest
-  goes : Rest (open_loop l name ws s ∷ os) finish rest script
+abbrev AtDo : ℕ → List ℕ → List Word → List Open → Script → List Token → Script → Type 0
+AtDo l name ws os s ts script = At (codes "do") (λ rest. Rest (open_loop l name ws s ∷ os) finish rest script) ts
 
 record BeforeDo (l : ℕ) (name : List ℕ) (ws : List Word) (os : List Open) (s : Script) (ts : List Token) (script : Script) : Type 0 where
   next : List Token
@@ -153,10 +145,8 @@ record InWords (l : ℕ) (name : List ℕ) (ws : List Word) (os : List Open) (s 
   separates : Separates rest next
   goes : AtDo l name (ws ++ others) os s next script
 
-record BehindName (l : ℕ) (name : List ℕ) (os : List Open) (s : Script) (ts : List Token) (script : Script) : Type 0 where
-  rest : List Token
-  is : IsKeyword (codes "in") ts rest
-  goes : InWords l name [] os s rest script
+abbrev BehindName : ℕ → List ℕ → List Open → Script → List Token → Script → Type 0
+BehindName l name os s ts script = At (codes "in") (λ rest. InWords l name [] os s rest script) ts
 
 record BehindFor (l : ℕ) (os : List Open) (s : Script) (ts : List Token) (script : Script) : Type 0 where
   k : ℕ
@@ -252,13 +242,13 @@ is_block : {n : Nest} {ts mid : List Token} {others : Script} → is_empty other
 is_block {others} full (inl k) = is_full others k.1 full
 is_block full (inr b) = b
 
-no_redirection_ok : (r : Option Redirection) (o : Option Condition) (c : Condition) → no_redirection r o ≡ Some c → (r ≡ None) × (o ≡ Some c)
-no_redirection_ok None o c h = (refl, h)
-no_redirection_ok (Some r) o c h = none_some h
+pub no_redirection_is : (r : Option Redirection) (o : Option Condition) (c : Condition) → no_redirection r o ≡ Some c → (r ≡ None) × (o ≡ Some c)
+no_redirection_is None o c h = (refl, h)
+no_redirection_is (Some r) o c h = none_some h
 
 if_closes : (os : List Open) (s : Script) (l k : ℕ) (v w : Word) (p : Bool) (t1 : List Token) (script : Script) → spells v (codes "if") ≡ true → ifs_in os < 16 → InCondition (begin_command l (item p w)) os s t1 script → Rest os s (word l true v ∷ word k p w ∷ t1) script
 if_closes os s l k v w p t1 script e lt g =
-    let n = no_redirection_ok g.r (condition_form (item p w) g.items) g.c g.form in
+    let n = no_redirection_is g.r (condition_form (item p w) g.items) g.c g.form in
     let items : IsItems t1 g.items None g.rest = subst (λ (x : Option Redirection). IsItems t1 g.items x g.rest) n.0 (subst (λ (x : List Item). IsItems t1 x g.r g.rest) (sym g.takes.2) g.takes.1) in
     let known : knows (names_in os) g.items None ≡ true = subst (λ (x : Option Redirection). knows (names_in os) g.items x ≡ true) n.0 g.known in
     let branch = g.goes.goes in
@@ -274,111 +264,20 @@ loop_closes os s l k v w p name t1 script e lt is_name new g =
     let block : IsBlock (nest_of (open_loop l name g.goes.others s ∷ os)) g.goes.goes.rest body.others body.mid = is_block body.full body.is in
     before_rest os s (loop l name g.goes.others body.others finish) (word l true v ∷ word k p w ∷ t1) body.closes.rest script (λ after. for_done lt (opens_loop (lists_words e is_name new g.is g.goes.takes) g.goes.separates g.goes.goes.is) block body.closes.is) body.closes.goes
 
--- what a word in a command's place does
-pub if_opens : (l : ℕ) (w : Word) (ts : List Token) (os : List Open) (s : Script) → spells w (codes "if") ≡ true → nat_lt (ifs_in os) 16 ≡ true → parse_on (in_place os s) (word l true w ∷ ts) ≡ parse_on (parser (behind_if l) os s) ts
-unfolding parse_on
-if_opens l w ts os s e lt = rw (e, lt) refl
-
-pub if_too_deep : (l : ℕ) (w : Word) (ts : List Token) (os : List Open) (s : Script) → spells w (codes "if") ≡ true → nat_lt (ifs_in os) 16 ≡ false → parse_on (in_place os s) (word l true w ∷ ts) ≡ fault_at l reasons.TooDeep
-unfolding parse_on
-if_too_deep l w ts os s e lt = rw (e, lt) refl
-
-pub for_opens : (l : ℕ) (w : Word) (ts : List Token) (os : List Open) (s : Script) → spells w (codes "for") ≡ true → nat_lt (length (names_in os)) 2 ≡ true → parse_on (in_place os s) (word l true w ∷ ts) ≡ parse_on (parser (behind_for l) os s) ts
-unfolding parse_on
-for_opens l w ts os s e lt = rw (spells_is w (codes "for") e, lt) refl
-
-pub for_too_deep : (l : ℕ) (w : Word) (ts : List Token) (os : List Open) (s : Script) → spells w (codes "for") ≡ true → nat_lt (length (names_in os)) 2 ≡ false → parse_on (in_place os s) (word l true w ∷ ts) ≡ fault_at l reasons.TooDeep
-unfolding parse_on
-for_too_deep l w ts os s e lt = rw (spells_is w (codes "for") e, lt) refl
-
-pub then_out : (l : ℕ) (w : Word) (ts : List Token) (os : List Open) (s : Script) → spells w (codes "then") ≡ true → parse_on (in_place os s) (word l true w ∷ ts) ≡ fault_at l reasons.IfShape
-unfolding parse_on
-then_out l w ts os s e = rw (spells_is w (codes "then") e) refl
-
-pub do_out : (l : ℕ) (w : Word) (ts : List Token) (os : List Open) (s : Script) → spells w (codes "do") ≡ true → parse_on (in_place os s) (word l true w ∷ ts) ≡ fault_at l reasons.Shape
-unfolding parse_on
-do_out l w ts os s e = rw (spells_is w (codes "do") e) refl
-
-pub else_alone : (l : ℕ) (w : Word) (ts : List Token) (s : Script) → spells w (codes "else") ≡ true → parse_on (in_place [] s) (word l true w ∷ ts) ≡ fault_at l reasons.IfShape
-unfolding parse_on
-else_alone l w ts s e = rw (spells_is w (codes "else") e) refl
-
-pub else_in_loop : (l : ℕ) (w : Word) (ts : List Token) (k : ℕ) (name : List ℕ) (ws : List Word) (before : Script) (os : List Open) (s : Script) → spells w (codes "else") ≡ true → parse_on (in_place (open_loop k name ws before ∷ os) s) (word l true w ∷ ts) ≡ fault_at l reasons.IfShape
-unfolding parse_on
-else_in_loop l w ts k name ws before os s e = rw (spells_is w (codes "else") e) refl
-
-pub else_twice : (l : ℕ) (w : Word) (ts : List Token) (k : ℕ) (c : Condition) (f before : Script) (os : List Open) (s : Script) → spells w (codes "else") ≡ true → parse_on (in_place (open_if k c (Some f) before ∷ os) s) (word l true w ∷ ts) ≡ fault_at l reasons.IfShape
-unfolding parse_on
-else_twice l w ts k c f before os s e = rw (spells_is w (codes "else") e) refl
-
-pub else_early : (l : ℕ) (w : Word) (ts : List Token) (k : ℕ) (c : Condition) (before : Script) (os : List Open) (s : Script) → spells w (codes "else") ≡ true → is_empty s ≡ true → parse_on (in_place (open_if k c None before ∷ os) s) (word l true w ∷ ts) ≡ fault_at l reasons.IfShape
-unfolding parse_on
-else_early l w ts k c before os s e none = rw (spells_is w (codes "else") e, none) refl
-
-pub fi_alone : (l : ℕ) (w : Word) (ts : List Token) (s : Script) → spells w (codes "fi") ≡ true → parse_on (in_place [] s) (word l true w ∷ ts) ≡ fault_at l reasons.IfShape
-unfolding parse_on
-fi_alone l w ts s e = rw (spells_is w (codes "fi") e) refl
-
-pub fi_in_loop : (l : ℕ) (w : Word) (ts : List Token) (k : ℕ) (name : List ℕ) (ws : List Word) (before : Script) (os : List Open) (s : Script) → spells w (codes "fi") ≡ true → parse_on (in_place (open_loop k name ws before ∷ os) s) (word l true w ∷ ts) ≡ fault_at l reasons.IfShape
-unfolding parse_on
-fi_in_loop l w ts k name ws before os s e = rw (spells_is w (codes "fi") e) refl
-
-pub fi_early : (l : ℕ) (w : Word) (ts : List Token) (k : ℕ) (c : Condition) (first : Option Script) (before : Script) (os : List Open) (s : Script) → spells w (codes "fi") ≡ true → is_empty s ≡ true → parse_on (in_place (open_if k c first before ∷ os) s) (word l true w ∷ ts) ≡ fault_at l reasons.IfShape
-unfolding parse_on
-fi_early l w ts k c first before os s e none = rw (spells_is w (codes "fi") e, none) refl
-
-pub fi_closes : (l : ℕ) (w : Word) (ts : List Token) (k : ℕ) (c : Condition) (first : Option Script) (before : Script) (os : List Open) (s : Script) → spells w (codes "fi") ≡ true → is_empty s ≡ false → parse_on (in_place (open_if k c first before ∷ os) s) (word l true w ∷ ts) ≡ parse_on (behind l os (closed (open_if k c first before) s)) ts
-unfolding parse_on
-fi_closes l w ts k c first before os s e full = rw (spells_is w (codes "fi") e, full) refl
-
-pub done_alone : (l : ℕ) (w : Word) (ts : List Token) (s : Script) → spells w (codes "done") ≡ true → parse_on (in_place [] s) (word l true w ∷ ts) ≡ fault_at l reasons.Shape
-unfolding parse_on
-done_alone l w ts s e = rw (spells_is w (codes "done") e) refl
-
-pub done_in_if : (l : ℕ) (w : Word) (ts : List Token) (k : ℕ) (c : Condition) (first : Option Script) (before : Script) (os : List Open) (s : Script) → spells w (codes "done") ≡ true → parse_on (in_place (open_if k c first before ∷ os) s) (word l true w ∷ ts) ≡ fault_at l reasons.Shape
-unfolding parse_on
-done_in_if l w ts k c first before os s e = rw (spells_is w (codes "done") e) refl
-
-pub done_early : (l : ℕ) (w : Word) (ts : List Token) (k : ℕ) (name : List ℕ) (ws : List Word) (before : Script) (os : List Open) (s : Script) → spells w (codes "done") ≡ true → is_empty s ≡ true → parse_on (in_place (open_loop k name ws before ∷ os) s) (word l true w ∷ ts) ≡ fault_at l reasons.Shape
-unfolding parse_on
-done_early l w ts k name ws before os s e none = rw (spells_is w (codes "done") e, none) refl
-
-pub done_closes : (l : ℕ) (w : Word) (ts : List Token) (k : ℕ) (name : List ℕ) (ws : List Word) (before : Script) (os : List Open) (s : Script) → spells w (codes "done") ≡ true → is_empty s ≡ false → parse_on (in_place (open_loop k name ws before ∷ os) s) (word l true w ∷ ts) ≡ parse_on (past_done l os (closed (open_loop k name ws before) s)) ts
-unfolding parse_on
-done_closes l w ts k name ws before os s e full = rw (spells_is w (codes "done") e, full) refl
-
 -- a word that is none of the shell's own with a place of its own
 abbrev pub IsNoKeyword : Word → Type 0
 IsNoKeyword w = (spells w (codes "if") ≡ false) × (spells w (codes "then") ≡ false) × (spells w (codes "else") ≡ false) × (spells w (codes "fi") ≡ false) × (spells w (codes "for") ≡ false) × (spells w (codes "do") ≡ false) × (spells w (codes "done") ≡ false)
 
-pub name_outside : (l : ℕ) (w : Word) (ts : List Token) (os : List Open) (s : Script) → IsNoKeyword w → is_one_of commands (item true w) ≡ false → is_one_of words_outside (item true w) ≡ true → parse_on (in_place os s) (word l true w ∷ ts) ≡ fault_at l reasons.Unsupported
-unfolding parse_on
-name_outside l w ts os s n e f = rw (n.0, n.1, n.2, n.3, n.4, n.5, n.6, e, f) refl
-
-pub name_unknown : (l : ℕ) (w : Word) (ts : List Token) (os : List Open) (s : Script) → IsNoKeyword w → is_one_of commands (item true w) ≡ false → is_one_of words_outside (item true w) ≡ false → parse_on (in_place os s) (word l true w ∷ ts) ≡ fault_at l reasons.UnknownCommand
-unfolding parse_on
-name_unknown l w ts os s n e f = rw (n.0, n.1, n.2, n.3, n.4, n.5, n.6, e, f) refl
-
--- what a word in a loop's head does
-pub for_named : (l k : ℕ) (p : Bool) (w : Word) (name : List ℕ) (ts : List Token) (os : List Open) (s : Script) → name_of (item p w) ≡ Some name → is_bound (names_in os) name ≡ false → parse_on (parser (behind_for l) os s) (word k p w ∷ ts) ≡ parse_on (parser (behind_name l name) os s) ts
-unfolding parse_on
-for_named l k p w name ts os s e new = rw (e, new) refl
-
-pub for_unnamed : (l k : ℕ) (p : Bool) (w : Word) (ts : List Token) (os : List Open) (s : Script) → name_of (item p w) ≡ None → parse_on (parser (behind_for l) os s) (word k p w ∷ ts) ≡ fault_at k reasons.Shape
-unfolding parse_on
-for_unnamed l k p w ts os s e = rw e refl
-
-pub for_bound : (l k : ℕ) (p : Bool) (w : Word) (name : List ℕ) (ts : List Token) (os : List Open) (s : Script) → name_of (item p w) ≡ Some name → is_bound (names_in os) name ≡ true → parse_on (parser (behind_for l) os s) (word k p w ∷ ts) ≡ fault_at k reasons.Shape
-unfolding parse_on
-for_bound l k p w name ts os s e bound = rw (e, bound) refl
-
 -- a word in a command's place, by what follows it
-else_in_branch : (ts : List Token) → Found ts → (l : ℕ) (w : Word) (k : ℕ) (c : Condition) (first : Option Script) (before : Script) (os : List Open) (s script : Script) → spells w (codes "else") ≡ true → parse_on (in_place (open_if k c first before ∷ os) s) (word l true w ∷ ts) ≡ Ok script → Rest (open_if k c first before ∷ os) s (word l true w ∷ ts) script
-else_in_branch ts f l w k c (Some first) before os s script e h = never (sym (else_twice l w ts k c first before os s e) ∙ h)
-else_in_branch ts f l w k c None before os s script e h = elim (cases_Bool (is_empty s)) [
-  | inl none ↦ never (sym (else_early l w ts k c before os s e none) ∙ h)
+else_in_place : (ts : List Token) → Found ts → (l : ℕ) (w : Word) (os : List Open) (s script : Script) → spells w (codes "else") ≡ true → parse_on (in_place os s) (word l true w ∷ ts) ≡ Ok script → Rest os s (word l true w ∷ ts) script
+unfolding parse_on
+else_in_place ts f l w [] s script e h = never (rw (spells_is w (codes "else") e) at h)
+else_in_place ts f l w (open_loop k name ws before ∷ os) s script e h = never (rw (spells_is w (codes "else") e) at h)
+else_in_place ts f l w (open_if k c (Some first) before ∷ os) s script e h = never (rw (spells_is w (codes "else") e) at h)
+else_in_place ts f l w (open_if k c None before ∷ os) s script e h = elim (cases_Bool (is_empty s)) [
+  | inl none ↦ never (rw (spells_is w (codes "else") e, none) at h)
   | inr full ↦
-      let g : Rest (open_if k c (Some s) before ∷ os) finish ts script = f at_command (open_if k c (Some s) before ∷ os) finish script (sym (else_read (keyword e) k c before os s full) ∙ h) in
+      let g : Rest (open_if k c (Some s) before ∷ os) finish ts script = f at_command (open_if k c (Some s) before ∷ os) finish script (rw (spells_is w (codes "else") e, full) at h) in
       record {
         others = finish;
         mid = word l true w ∷ ts;
@@ -388,22 +287,18 @@ else_in_branch ts f l w k c None before os s script e h = elim (cases_Bool (is_e
       }
 ]
 
-else_in_place : (ts : List Token) → Found ts → (l : ℕ) (w : Word) (os : List Open) (s script : Script) → spells w (codes "else") ≡ true → parse_on (in_place os s) (word l true w ∷ ts) ≡ Ok script → Rest os s (word l true w ∷ ts) script
-else_in_place ts f l w [] s script e h = never (sym (else_alone l w ts s e) ∙ h)
-else_in_place ts f l w (open_if k c first before ∷ os) s script e h = else_in_branch ts f l w k c first before os s script e h
-else_in_place ts f l w (open_loop k name ws before ∷ os) s script e h = never (sym (else_in_loop l w ts k name ws before os s e) ∙ h)
-
 fi_in_branch : (ts : List Token) (l : ℕ) (w : Word) (k : ℕ) (c : Condition) (first : Option Script) (before : Script) (n : Nest) (E : Script → List Token → Type 0) (s : Script) → spells w (codes "fi") ≡ true → E (closed (open_if k c first before) s) ts → Closes (open_if k c first before) n E s (word l true w ∷ ts)
 fi_in_branch ts l w k c None before n E s e g = inl (record { rest = ts; is = keyword e; goes = g })
 fi_in_branch ts l w k c (Some first) before n E s e g = record { rest = ts; is = keyword e; goes = g }
 
 fi_in_place : (ts : List Token) → Found ts → (l : ℕ) (w : Word) (os : List Open) (s script : Script) → spells w (codes "fi") ≡ true → parse_on (in_place os s) (word l true w ∷ ts) ≡ Ok script → Rest os s (word l true w ∷ ts) script
-fi_in_place ts f l w [] s script e h = never (sym (fi_alone l w ts s e) ∙ h)
-fi_in_place ts f l w (open_loop k name ws before ∷ os) s script e h = never (sym (fi_in_loop l w ts k name ws before os s e) ∙ h)
+unfolding parse_on
+fi_in_place ts f l w [] s script e h = never (rw (spells_is w (codes "fi") e) at h)
+fi_in_place ts f l w (open_loop k name ws before ∷ os) s script e h = never (rw (spells_is w (codes "fi") e) at h)
 fi_in_place ts f l w (open_if k c first before ∷ os) s script e h = elim (cases_Bool (is_empty s)) [
-  | inl none ↦ never (sym (fi_early l w ts k c first before os s e none) ∙ h)
+  | inl none ↦ never (rw (spells_is w (codes "fi") e, none) at h)
   | inr full ↦
-      let g : Ended os (closed (open_if k c first before) s) ts script = f (behind_fi l) os (closed (open_if k c first before) s) script (sym (fi_closes l w ts k c first before os s e full) ∙ h) in
+      let g : Ended os (closed (open_if k c first before) s) ts script = f (behind_fi l) os (closed (open_if k c first before) s) script (rw (spells_is w (codes "fi") e, full) at h) in
       record {
         others = finish;
         mid = word l true w ∷ ts;
@@ -414,12 +309,13 @@ fi_in_place ts f l w (open_if k c first before ∷ os) s script e h = elim (case
 ]
 
 done_in_place : (ts : List Token) → Found ts → (l : ℕ) (w : Word) (os : List Open) (s script : Script) → spells w (codes "done") ≡ true → parse_on (in_place os s) (word l true w ∷ ts) ≡ Ok script → Rest os s (word l true w ∷ ts) script
-done_in_place ts f l w [] s script e h = never (sym (done_alone l w ts s e) ∙ h)
-done_in_place ts f l w (open_if k c first before ∷ os) s script e h = never (sym (done_in_if l w ts k c first before os s e) ∙ h)
+unfolding parse_on
+done_in_place ts f l w [] s script e h = never (rw (spells_is w (codes "done") e) at h)
+done_in_place ts f l w (open_if k c first before ∷ os) s script e h = never (rw (spells_is w (codes "done") e) at h)
 done_in_place ts f l w (open_loop k name ws before ∷ os) s script e h = elim (cases_Bool (is_empty s)) [
-  | inl none ↦ never (sym (done_early l w ts k name ws before os s e none) ∙ h)
+  | inl none ↦ never (rw (spells_is w (codes "done") e, none) at h)
   | inr full ↦
-      let g : Ended os (closed (open_loop k name ws before) s) ts script = f (behind_done l) os (closed (open_loop k name ws before) s) script (sym (done_closes l w ts k name ws before os s e full) ∙ h) in
+      let g : Ended os (closed (open_loop k name ws before) s) ts script = f (behind_done l) os (closed (open_loop k name ws before) s) script (rw (spells_is w (codes "done") e, full) at h) in
       record {
         others = finish;
         mid = word l true w ∷ ts;
@@ -430,19 +326,21 @@ done_in_place ts f l w (open_loop k name ws before ∷ os) s script e h = elim (
 ]
 
 if_in_place : (ts : List Token) → Found ts → (l : ℕ) (w : Word) (os : List Open) (s script : Script) → spells w (codes "if") ≡ true → parse_on (in_place os s) (word l true w ∷ ts) ≡ Ok script → Rest os s (word l true w ∷ ts) script
+unfolding parse_on
 if_in_place ts f l w os s script e h = elim (cases_Bool (nat_lt (ifs_in os) 16)) [
   | inl lt ↦
-      let g = f (behind_if l) os s script (sym (if_opens l w ts os s e lt) ∙ h) in
+      let g = f (behind_if l) os s script (rw (e, lt) at h) in
       subst (λ (x : List Token). Rest os s (word l true w ∷ x) script) (sym g.is) (if_closes os s l g.k w g.w g.p g.others script e (ltb-true (ifs_in os) 16 lt) g.goes)
-  | inr ge ↦ never (sym (if_too_deep l w ts os s e ge) ∙ h)
+  | inr ge ↦ never (rw (e, ge) at h)
 ]
 
 for_in_place : (ts : List Token) → Found ts → (l : ℕ) (w : Word) (os : List Open) (s script : Script) → spells w (codes "for") ≡ true → parse_on (in_place os s) (word l true w ∷ ts) ≡ Ok script → Rest os s (word l true w ∷ ts) script
+unfolding parse_on
 for_in_place ts f l w os s script e h = elim (cases_Bool (nat_lt (length (names_in os)) 2)) [
   | inl lt ↦
-      let g = f (behind_for l) os s script (sym (for_opens l w ts os s e lt) ∙ h) in
+      let g = f (behind_for l) os s script (rw (spells_is w (codes "for") e, lt) at h) in
       subst (λ (x : List Token). Rest os s (word l true w ∷ x) script) (sym g.is) (loop_closes os s l g.k w g.w g.p g.name g.others script e (ltb-true (length (names_in os)) 2 lt) g.is_name g.new g.goes)
-  | inr ge ↦ never (sym (for_too_deep l w ts os s e ge) ∙ h)
+  | inr ge ↦ never (rw (spells_is w (codes "for") e, ge) at h)
 ]
 
 command_in_place : (ts : List Token) → Found ts → (l : ℕ) (w : Word) (os : List Open) (s script : Script) → is_one_of commands (item true w) ≡ true → parse_on (in_place os s) (word l true w ∷ ts) ≡ Ok script → Rest os s (word l true w ∷ ts) script
@@ -474,11 +372,12 @@ word_kinds w k1 k2 k3 k4 k5 k6 k7 k8 = elim (cases_Bool (spells w (codes "if")))
 ]
 
 name_in_place : (ts : List Token) → Found ts → (l : ℕ) (w : Word) (os : List Open) (s script : Script) → IsNoKeyword w → parse_on (in_place os s) (word l true w ∷ ts) ≡ Ok script → Rest os s (word l true w ∷ ts) script
+unfolding parse_on
 name_in_place ts f l w os s script n h = elim (cases_Bool (is_one_of commands (item true w))) [
   | inl e ↦ command_in_place ts f l w os s script e h
   | inr e5 ↦ elim (cases_Bool (is_one_of words_outside (item true w))) [
-    | inl e ↦ never (sym (name_outside l w ts os s n e5 e) ∙ h)
-    | inr e ↦ never (sym (name_unknown l w ts os s n e5 e) ∙ h)
+    | inl e ↦ never (rw (n.0, n.1, n.2, n.3, n.4, n.5, n.6, e5, e) at h)
+    | inr e ↦ never (rw (n.0, n.1, n.2, n.3, n.4, n.5, n.6, e5, e) at h)
   ]
 ]
 
@@ -488,11 +387,11 @@ word_in_place ts f l false w os s script h = never h
 word_in_place ts f l true w os s script h =
     word_kinds w
     (λ e. if_in_place ts f l w os s script e h)
-    (λ e. never (sym (then_out l w ts os s e) ∙ h))
+    (λ e. never (rw (spells_is w (codes "then") e) at h))
     (λ e. else_in_place ts f l w os s script e h)
     (λ e. fi_in_place ts f l w os s script e h)
     (λ e. for_in_place ts f l w os s script e h)
-    (λ e. never (sym (do_out l w ts os s e) ∙ h))
+    (λ e. never (rw (spells_is w (codes "do") e) at h))
     (λ e. done_in_place ts f l w os s script e h)
     (λ n. name_in_place ts f l w os s script n h)
 
@@ -635,13 +534,14 @@ unfolding parse_on
 fi_followed l k p w ts os s script h = elim (cases_Bool (is_one_of loop_words (item p w))) [ inl e ↦ never (rw e at h) | inr e ↦ never (rw e at h) ]
 
 name_found : (ts : List Token) → Found ts → (l k : ℕ) (p : Bool) (w : Word) (os : List Open) (s script : Script) → parse_on (parser (behind_for l) os s) (word k p w ∷ ts) ≡ Ok script → BehindFor l os s (word k p w ∷ ts) script
+unfolding parse_on
 name_found ts f l k p w os s script h = go (name_of (item p w)) refl
   where
     go : (o : Option (List ℕ)) → name_of (item p w) ≡ o → BehindFor l os s (word k p w ∷ ts) script
-    go None e = never (sym (for_unnamed l k p w ts os s e) ∙ h)
+    go None e = never (rw e at h)
     go (Some name) e = elim (cases_Bool (is_bound (names_in os) name)) [
-      | inl bound ↦ never (sym (for_bound l k p w name ts os s e bound) ∙ h)
-      | inr new ↦ record { k = k; p = p; w = w; name = name; others = ts; is = refl; is_name = e; new = new; goes = f (behind_name l name) os s script (sym (for_named l k p w name ts os s e new) ∙ h) }
+      | inl bound ↦ never (rw (e, bound) at h)
+      | inr new ↦ record { k = k; p = p; w = w; name = name; others = ts; is = refl; is_name = e; new = new; goes = f (behind_name l name) os s script (rw (e, new) at h) }
     ]
 
 in_found : (ts : List Token) → Found ts → (l : ℕ) (name : List ℕ) (k : ℕ) (p : Bool) (w : Word) (os : List Open) (s script : Script) → parse_on (parser (behind_name l name) os s) (word k p w ∷ ts) ≡ Ok script → BehindName l name os s (word k p w ∷ ts) script

@@ -35,20 +35,16 @@ unfolding read_on
 read_blames r [] = end_blames r.mode r
 read_blames r (b ∷ bs) = bound (next_byte r b) _ (byte_blames r.line b (next_byte r b) (keeps r b)) (λ q. read_blames q bs)
 
-tokens_blame : (text : List ℕ) → Blames (tokens_of text)
-unfolding tokens_of
-tokens_blame text = read_blames at_start text
-
 nul_blames : (text : List ℕ) (line : ℕ) → Blames (nul_from line text)
 nul_blames [] line = tt
 nul_blames (b ∷ bs) line = by_if (b == 0) _ _ (λ e. cc e) (nul_blames bs (line_after line b))
 
 text_blames : (text : List ℕ) → Blames (script_in text)
-unfolding script_in
+unfolding script_in tokens_of
 text_blames text =
     bound (nul_from 1 text) _ (nul_blames text 1) (λ none.
     bound (interpreter_of text) _ (by_if (interpreter_is_fit text) _ _ tt (λ e. cc e)) (λ fit.
-    bound (tokens_of text) _ (tokens_blame text) (λ ts. statements_blame ts)))
+    bound (tokens_of text) _ (read_blames at_start text) (λ ts. statements_blame ts)))
 
 pub of_texts : (text : List ℕ) (fault : ScriptFault) → script_in text ≡ Err fault → fault.why ≢ reasons.Memory
 of_texts text fault e = blamed (script_in text) fault (text_blames text) e

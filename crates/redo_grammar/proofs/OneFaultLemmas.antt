@@ -1,5 +1,5 @@
 -- A text has at most one fault.
-use Rattle.std.proofs.Common.{◌≡◌, ◌⊎◌, ℕ, true, false, ◌==◌, List, [], ◌∷◌, ◌++◌, Result, Ok, Err, refl, sym, ap}
+use Rattle.std.proofs.Common.{◌≡◌, ◌⊎◌, ℕ, true, ◌==◌, List, [], ◌∷◌, ◌++◌, Result, Ok, Err, refl, sym, ap}
 use Rattle.std.proofs.Common.{◌∙◌, subst, append_assoc, inl, inr}
 use Rattle.std.proofs.lemmas.Bool.{both_ways}
 use Rattle.std.proofs.lemmas.List.{append-nil}
@@ -7,8 +7,7 @@ use Rattle.redo_script.specs.declared.fault.ScriptFault.{ScriptFault}
 use Rattle.redo_script.specs.Tokens.{Token, line_after}
 use Rattle.redo_grammar.specs.Tokens.{AreTokens}
 use Rattle.redo_script.specs.Reading.{tokens_of}
-use Rattle.redo_script.specs.Parsing.{statements_of}
-use Rattle.redo_script.specs.Texts.{has_no_nul, nul_from, interpreter_is_fit, script_in}
+use Rattle.redo_script.specs.Texts.{has_no_nul, nul_from, script_in}
 use Rattle.redo_script.specs.Marks.{line_from}
 use Rattle.redo_grammar.specs.Places.{CanGoOn, QuoteIsOpen, StopsAtByte, StopsAtEnd}
 use Rattle.redo_grammar.specs.Refusals.{in_line}
@@ -106,24 +105,11 @@ nul_found (b ∷ before) after line h = elim (Rattle.std.proofs.lemmas.Bool.case
   | inr e ↦ rw e (nul_found before after (line_after line b) (rw e at h))
 ]
 
-nul_answered : (text : List ℕ) (fault : ScriptFault) → nul_from 1 text ≡ Err fault → script_in text ≡ Err fault
-unfolding script_in
-nul_answered text fault e = rw e refl
-
-interpreter_answered : (text : List ℕ) → has_no_nul text ≡ true → interpreter_is_fit text ≡ false → script_in text ≡ Err (in_line 1 reasons.Interpreter)
-unfolding script_in
-interpreter_answered text n e = rw (nul_passes text 1 n, e) refl
-
-tokens_answered : (text : List ℕ) (fault : ScriptFault) → has_no_nul text ≡ true → interpreter_is_fit text ≡ true → tokens_of text ≡ Err fault → script_in text ≡ Err fault
-unfolding script_in
-tokens_answered text fault n e h = rw (nul_passes text 1 n, e, h) refl
-
-commands_answered : (text : List ℕ) (ts : List Token) (fault : ScriptFault) → has_no_nul text ≡ true → interpreter_is_fit text ≡ true → tokens_of text ≡ Ok ts → statements_of ts ≡ Err fault → script_in text ≡ Err fault
-unfolding script_in
-commands_answered text ts fault n e h k = rw (nul_passes text 1 n, e, h) k
-
 pub answered : (text : List ℕ) (fault : ScriptFault) → IsRefused text fault → script_in text ≡ Err fault
-answered text fault (by_nul g) = nul_answered text fault (ap (λ x. nul_from 1 x) g.is ∙ (nul_found g.before g.after 1 g.is_first ∙ ap (λ x. Err x) (sym g.fault_is)))
-answered text fault (by_interpreter n e) = interpreter_answered text n e
-answered text fault (by_tokens n e s) = tokens_answered text fault n e (stopped text fault s)
-answered text fault (by_commands {ts} n e g s) = commands_answered text ts fault n e (only_tokens text ts g) (refusing ts fault s)
+unfolding script_in
+answered text fault (by_nul g) =
+    let e : nul_from 1 text ≡ Err fault = ap (λ x. nul_from 1 x) g.is ∙ (nul_found g.before g.after 1 g.is_first ∙ ap (λ x. Err x) (sym g.fault_is)) in
+    rw e refl
+answered text fault (by_interpreter n e) = rw (nul_passes text 1 n, e) refl
+answered text fault (by_tokens n e s) = rw (nul_passes text 1 n, e, stopped text fault s) refl
+answered text fault (by_commands {ts} n e g s) = rw (nul_passes text 1 n, e, only_tokens text ts g) (refusing ts fault s)

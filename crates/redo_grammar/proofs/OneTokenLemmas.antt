@@ -7,7 +7,7 @@ use Rattle.std.proofs.lemmas.Bool.{lt-ltb}
 use Rattle.redo_script.specs.Syntax.{byte, Word, Redirection, Command, Condition, Script, finish, simple}
 use Rattle.redo_script.specs.Tokens.{Token, word, semicolon, newline, redirect}
 use Rattle.redo_script.specs.Forms.{Item, spells, is_named, command_form, condition_form, name_of, is_bound}
-use Rattle.redo_script.specs.Forms.{knows_word, knows}
+use Rattle.redo_script.specs.Forms.{knows}
 use Rattle.redo_grammar.specs.Grammar.{AtSeparator, IsItems, none_left, one_item, redirected, SkipsNewlines, here}
 use Rattle.redo_grammar.specs.Grammar.{past, Separates, by_semicolon, by_newline, IsKeyword, keyword, TakesWords}
 use Rattle.redo_grammar.specs.Grammar.{no_word, one_word}
@@ -65,14 +65,6 @@ command_ends (newline k ∷ ts) a l n items r c os s e known = rw (e, known) ref
 command_ends (word k p w ∷ ts) a l n items r c os s e known = absurd a
 command_ends (redirect k p ∷ ts) a l n items r c os s e known = absurd a
 
-pub any_line : (rest : List Token) → AtSeparator rest → (l k : ℕ) (os : List Open) (s : Script) → parse_on (behind l os s) rest ≡ parse_on (behind k os s) rest
-unfolding parse_on
-any_line [] a l k os s = refl
-any_line (semicolon j ∷ ts) a l k os s = refl
-any_line (newline j ∷ ts) a l k os s = refl
-any_line (word j p w ∷ ts) a l k os s = absurd a
-any_line (redirect j p ∷ ts) a l k os s = absurd a
-
 pub separates_at : {ts rest : List Token} → Separates ts rest → AtSeparator ts
 separates_at (by_semicolon g) = tt
 separates_at (by_newline g) = tt
@@ -97,14 +89,6 @@ unfolding parse_on
 condition_ends (by_semicolon {ts} {rest} g) l n items c os s e known = rw (e, known) (then_newlines g l c os s)
 condition_ends (by_newline {ts} {rest} g) l n items c os s e known = rw (e, known) (then_newlines g l c os s)
 
-pub then_read : {ts rest : List Token} → IsKeyword (codes "then") ts rest → (l : ℕ) (c : Condition) (os : List Open) (s : Script) → parse_on (awaiting_then l c os s) ts ≡ parse_on (in_place (open_if l c None s ∷ os) finish) rest
-unfolding parse_on
-then_read (keyword {w} e) l c os s = rw e refl
-
-pub fi_read : {ts rest : List Token} → IsKeyword (codes "fi") ts rest → (l : ℕ) (c : Condition) (first : Option Script) (before : Script) (os : List Open) (s : Script) → is_empty s ≡ false → AtSeparator rest → parse_on (in_place (open_if l c first before ∷ os) s) ts ≡ parse_on (behind 0 os (closed (open_if l c first before) s)) rest
-unfolding parse_on
-fi_read (keyword {l = k} {w} {ts} e) l c first before os s full a = rw (spells_is w (codes "fi") e, full) (any_line ts a k 0 os (closed (open_if l c first before) s))
-
 -- behind done
 abbrev pub past_done : ℕ → List Open → Script → Parser
 past_done l os s = state_at (behind_done l) os s
@@ -117,6 +101,13 @@ same_behind (newline j ∷ ts) a l k os s = refl
 same_behind (word j p w ∷ ts) a l k os s = absurd a
 same_behind (redirect j p ∷ ts) a l k os s = absurd a
 
+pub any_line : (rest : List Token) → AtSeparator rest → (l k : ℕ) (os : List Open) (s : Script) → parse_on (behind l os s) rest ≡ parse_on (behind k os s) rest
+any_line rest a l k os s = sym (same_behind rest a 0 l os s) ∙ same_behind rest a 0 k os s
+
+pub fi_read : {ts rest : List Token} → IsKeyword (codes "fi") ts rest → (l : ℕ) (c : Condition) (first : Option Script) (before : Script) (os : List Open) (s : Script) → is_empty s ≡ false → AtSeparator rest → parse_on (in_place (open_if l c first before ∷ os) s) ts ≡ parse_on (behind 0 os (closed (open_if l c first before) s)) rest
+unfolding parse_on
+fi_read (keyword {l = k} {w} {ts} e) l c first before os s full a = rw (spells_is w (codes "fi") e, full) (any_line ts a k 0 os (closed (open_if l c first before) s))
+
 pub done_read : {ts rest : List Token} → IsKeyword (codes "done") ts rest → (l : ℕ) (name : List ℕ) (ws : List Word) (before : Script) (os : List Open) (s : Script) → is_empty s ≡ false → AtSeparator rest → parse_on (in_place (open_loop l name ws before ∷ os) s) ts ≡ parse_on (behind 0 os (closed (open_loop l name ws before) s)) rest
 unfolding parse_on
 done_read (keyword {l = k} {w} {ts} e) l name ws before os s full a = rw (spells_is w (codes "done") e, full) (same_behind ts a k 0 os (closed (open_loop l name ws before) s))
@@ -126,19 +117,11 @@ pub for_begins : (l k : ℕ) (v w : Word) (p : Bool) (name : List ℕ) (ts : Lis
 unfolding parse_on
 for_begins l k v w p name ts os s e lt is_name new = rw (spells_is v (codes "for") e, lt-ltb (length (names_in os)) 2 lt, is_name, new) refl
 
-pub in_read : {ts rest : List Token} → IsKeyword (codes "in") ts rest → (l : ℕ) (name : List ℕ) (os : List Open) (s : Script) → parse_on (state_at (behind_name l name) os s) ts ≡ parse_on (state_at (in_words l name []) os s) rest
-unfolding parse_on
-in_read (keyword {w} e) l name os s = rw e refl
-
-pub word_taken : (l k : ℕ) (p : Bool) (w : Word) (ts : List Token) (name : List ℕ) (ws : List Word) (os : List Open) (s : Script) → knows_word (names_in os) w ≡ true → parse_on (state_at (in_words l name ws) os s) (word k p w ∷ ts) ≡ parse_on (state_at (in_words l name (ws ++ w ∷ [])) os s) ts
-unfolding parse_on
-word_taken l k p w ts name ws os s known = rw known refl
-
 pub words_read : {names : List (List ℕ)} {ts rest : List Token} {ws : List Word} → TakesWords names ts ws rest → (l : ℕ) (name : List ℕ) (so_far : List Word) (os : List Open) (s : Script) → names_in os ≡ names → parse_on (state_at (in_words l name so_far) os s) ts ≡ parse_on (state_at (in_words l name (so_far ++ ws)) os s) rest
+unfolding parse_on
 words_read (no_word {ts}) l name so_far os s e = ap (λ x. parse_on (state_at (in_words l name x) os s) ts) (sym (append-nil so_far))
 words_read (one_word {l = k} {p} {w} {ts} {rest} {ws} known g) l name so_far os s e =
-    word_taken l k p w ts name so_far os s (ap (λ x. knows_word x w) e ∙ known)
-    ∙ (words_read g l name (so_far ++ w ∷ []) os s e ∙ ap (λ x. parse_on (state_at (in_words l name x) os s) rest) (append_assoc so_far (w ∷ []) ws))
+    rw (e, known) (words_read g l name (so_far ++ w ∷ []) os s e ∙ ap (λ x. parse_on (state_at (in_words l name x) os s) rest) (append_assoc so_far (w ∷ []) ws))
 
 do_newlines : {ts rest : List Token} → SkipsNewlines ts rest → (l : ℕ) (name : List ℕ) (ws : List Word) (os : List Open) (s : Script) → parse_on (state_at (before_do l name ws) os s) ts ≡ parse_on (state_at (before_do l name ws) os s) rest
 unfolding parse_on
@@ -149,10 +132,6 @@ pub words_end : {ts rest : List Token} → Separates ts rest → (l : ℕ) (name
 unfolding parse_on
 words_end (by_semicolon g) l name ws os s = do_newlines g l name ws os s
 words_end (by_newline g) l name ws os s = do_newlines g l name ws os s
-
-pub do_read : {ts rest : List Token} → IsKeyword (codes "do") ts rest → (l : ℕ) (name : List ℕ) (ws : List Word) (os : List Open) (s : Script) → parse_on (state_at (before_do l name ws) os s) ts ≡ parse_on (in_place (open_loop l name ws s ∷ os) finish) rest
-unfolding parse_on
-do_read (keyword {w} e) l name ws os s = rw e refl
 
 pub else_read : {ts rest : List Token} → IsKeyword (codes "else") ts rest → (l : ℕ) (c : Condition) (before : Script) (os : List Open) (s : Script) → is_empty s ≡ false → parse_on (in_place (open_if l c None before ∷ os) s) ts ≡ parse_on (in_place (open_if l c (Some s) before ∷ os) finish) rest
 unfolding parse_on

@@ -4,7 +4,7 @@ use Rattle.std.proofs.Common.{subst}
 use Rattle.redo_script.specs.Syntax.{Word, Condition, Script, finish, simple, choice, loop}
 use Rattle.redo_script.specs.Tokens.{Token}
 use Rattle.redo_script.specs.Forms.{is_bound, knows}
-use Rattle.redo_grammar.specs.Grammar.{AtSeparator, OpensIf, opens_if, ListsWords, lists_words, OpensLoop, opens_loop}
+use Rattle.redo_grammar.specs.Grammar.{AtSeparator, keyword, OpensIf, opens_if, ListsWords, lists_words, OpensLoop, opens_loop}
 use Rattle.redo_grammar.specs.Grammar.{IsCommand, a_command, if_then, if_else, for_done, IsBlock, after_newlines}
 use Rattle.redo_grammar.specs.Grammar.{IsList, last, more, IsWhole, empty, unended, continues, IsProgram}
 use Rattle.redo_script.specs.Parsing.{Nest, nest_in, in_if, in_loop, in_words, Open, open_if, open_loop, openings}
@@ -13,8 +13,8 @@ use Rattle.redo_script.proofs.NameLemmas.{item}
 use Rattle.redo_grammar.proofs.CommandLemmas.{command_named, condition_named}
 use Rattle.redo_grammar.proofs.OneTokenLemmas.{state_at, in_place, behind, items_read, condition_items_read}
 use Rattle.redo_grammar.proofs.OneTokenLemmas.{command_ends, separates_at, newlines_read, separators_read}
-use Rattle.redo_grammar.proofs.OneTokenLemmas.{condition_ends, then_read, fi_read, else_read, command_begins}
-use Rattle.redo_grammar.proofs.OneTokenLemmas.{if_begins, for_begins, in_read, words_read, words_end, do_read}
+use Rattle.redo_grammar.proofs.OneTokenLemmas.{condition_ends, fi_read, else_read, command_begins}
+use Rattle.redo_grammar.proofs.OneTokenLemmas.{if_begins, for_begins, words_read, words_end}
 use Rattle.redo_grammar.proofs.OneTokenLemmas.{done_read}
 
 pub with_finish : (s : Script) → with_last s finish ≡ s
@@ -48,22 +48,25 @@ pub record ReadsList (n : Nest) (ts : List Token) (script : Script) (rest : List
 
 -- an if up to its then
 pub if_read : {names : List (List ℕ)} {l : ℕ} {c : Condition} {ts rest : List Token} → OpensIf names l c ts rest → (os : List Open) (s : Script) → names_in os ≡ names → ifs_in os < 16 → parse_on (in_place os s) ts ≡ parse_on (in_place (open_if l c None s ∷ os) finish) rest
-if_read (opens_if {l} {k} {p} {v} {w} {t1 = others} {items} {c} e g h known sep is_then) os s same lt =
+unfolding parse_on
+if_read (opens_if {l} {k} {p} {v} {w} {t1 = others} {items} {c} e g h known sep (keyword is_then)) os s same lt =
     if_begins l k v w p others os s e lt (condition_named (item p w) items c h)
     ∙ (condition_items_read g l (item p w) [] os s
     ∙ (condition_ends sep l (item p w) items c os s h (ap (λ x. knows x items None) same ∙ known)
-    ∙ then_read is_then l c os s))
+    ∙ rw is_then refl))
 
 -- a loop's words
 pub list_read_on : {names : List (List ℕ)} {l : ℕ} {name : List ℕ} {ws : List Word} {ts rest : List Token} → ListsWords names l name ws ts rest → (os : List Open) (s : Script) → names_in os ≡ names → length (names_in os) < 2 → parse_on (in_place os s) ts ≡ parse_on (state_at (in_words l name ws) os s) rest
-list_read_on (lists_words {l} {k} {p} {v} {w} {name} {t1} {ws} e is_name new is_in g) os s same lt =
+unfolding parse_on
+list_read_on (lists_words {l} {k} {p} {v} {w} {name} {t1} {ws} e is_name new (keyword is_in) g) os s same lt =
     for_begins l k v w p name t1 os s e lt is_name (ap (λ x. is_bound x name) same ∙ new)
-    ∙ (in_read is_in l name os s ∙ words_read g l name [] os s same)
+    ∙ rw is_in (words_read g l name [] os s same)
 
 -- a loop up to its do
 pub loop_read : {names : List (List ℕ)} {l : ℕ} {name : List ℕ} {ws : List Word} {ts rest : List Token} → OpensLoop names l name ws ts rest → (os : List Open) (s : Script) → names_in os ≡ names → length (names_in os) < 2 → parse_on (in_place os s) ts ≡ parse_on (in_place (open_loop l name ws s ∷ os) finish) rest
-loop_read (opens_loop {l} {name} {ws} g sep is_do) os s same lt =
-    list_read_on g os s same lt ∙ (words_end sep l name ws os s ∙ do_read is_do l name ws os s)
+unfolding parse_on
+loop_read (opens_loop {l} {name} {ws} g sep (keyword is_do)) os s same lt =
+    list_read_on g os s same lt ∙ (words_end sep l name ws os s ∙ rw is_do refl)
 
 list_ends : {n : Nest} {ts mid rest : List Token} {whole : Script} → ReadsOne n ts mid finish whole → Rattle.redo_grammar.specs.Grammar.Separates mid rest → ReadsList n ts whole rest
 list_ends {n} {ts} {mid} {rest} {whole} c g =

@@ -14,7 +14,7 @@ use Rattle.redo_grammar.specs.Refusals.{in_line, HasNoForm, HasNoTest}
 use Rattle.redo_script.proofs.NameLemmas.{item}
 use Rattle.redo_grammar.proofs.CommandLemmas.{none_some}
 use Rattle.redo_grammar.proofs.FoundScriptLemmas.{Takes, TakesOf, state, word_continues, redirect_continues}
-use Rattle.redo_grammar.proofs.FoundScriptLemmas.{formed_ok, takes_end}
+use Rattle.redo_grammar.proofs.FoundScriptLemmas.{formed_ok, no_redirection_is, takes_end}
 use Rattle.redo_script.specs.declared.fault.Reason.TheVariants as reasons
 
 items_word : {us rest : List Token} {others : List Item} {r : Option Redirection} (k : ℕ) (p : Bool) (w : Word) (ts : List Token) → IsItems us others r rest → us ≡ word k p w ∷ ts → (more : List Item) × (others ≡ item p w ∷ more) × IsItems ts more r rest
@@ -115,15 +115,15 @@ goes_redirect {b} {ts} {rest} k a g =
       gives = λ items r end x. d items r end (g.gives items r end x);
     }
 
--- the command ends well, where these names are bound
-pub record EndsWell (names : List (List ℕ)) (ts rest : List Token) (name : Item) (c : Command) : Type 0 where
+-- the command ends well, and its names are among these or not
+pub record EndsWell (names : List (List ℕ)) (are_known : Bool) (ts rest : List Token) (name : Item) (c : Command) : Type 0 where
   pub items : List Item
   pub r : Option Redirection
   pub is : IsItems ts items r rest
   pub form : command_form name items r ≡ Some c
-  pub known : knows names items r ≡ true
+  pub known : knows names items r ≡ are_known
 
-pub ends_well : {names : List (List ℕ)} {b : PartialCommand} {ts rest : List Token} {name : Item} {line : ℕ} (c : Command) → IsPartial b ts rest name line → AtSeparator rest → ended_command names b ≡ Ok c → EndsWell names ts rest name c
+pub ends_well : {names : List (List ℕ)} {b : PartialCommand} {ts rest : List Token} {name : Item} {line : ℕ} (c : Command) → IsPartial b ts rest name line → AtSeparator rest → ended_command names b ≡ Ok c → EndsWell names true ts rest name c
 ends_well {names} {b} {ts} {rest} {name} c g a h =
     let form = formed_ok b.line (is_unfinished b) (command_form b.name b.items b.redirection) (knows names b.items b.redirection) c h in
     record {
@@ -134,17 +134,13 @@ ends_well {names} {b} {ts} {rest} {name} c g a h =
       known = form.2;
     }
 
-pub record EndsTest (names : List (List ℕ)) (ts rest : List Token) (name : Item) (c : Condition) : Type 0 where
+pub record EndsTest (names : List (List ℕ)) (are_known : Bool) (ts rest : List Token) (name : Item) (c : Condition) : Type 0 where
   pub items : List Item
   pub is : IsItems ts items None rest
   pub form : condition_form name items ≡ Some c
-  pub known : knows names items None ≡ true
+  pub known : knows names items None ≡ are_known
 
-pub no_redirection_is : (r : Option Redirection) (o : Option Condition) (c : Condition) → no_redirection r o ≡ Some c → (r ≡ None) × (o ≡ Some c)
-no_redirection_is None o c h = (refl, h)
-no_redirection_is (Some r) o c h = none_some h
-
-pub ends_test : {names : List (List ℕ)} {b : PartialCommand} {ts rest : List Token} {name : Item} {line : ℕ} (c : Condition) → IsPartial b ts rest name line → AtSeparator rest → ended_condition names b ≡ Ok c → EndsTest names ts rest name c
+pub ends_test : {names : List (List ℕ)} {b : PartialCommand} {ts rest : List Token} {name : Item} {line : ℕ} (c : Condition) → IsPartial b ts rest name line → AtSeparator rest → ended_condition names b ≡ Ok c → EndsTest names true ts rest name c
 ends_test {names} {b} {ts} {rest} {name} c g a h =
     let form = formed_ok b.line (is_unfinished b) (no_redirection b.redirection (condition_form b.name b.items)) (knows names b.items b.redirection) c h in
     let n = no_redirection_is b.redirection (condition_form b.name b.items) c form.1 in
@@ -162,16 +158,7 @@ formed_err l false None known f h = inl (cc h, λ e x n. none_some n)
 formed_err l false (Some y) true f h = absurd (cc h)
 formed_err l false (Some y) false f h = inr (cc h, refl, (y, refl), refl)
 
--- a command in which a name isn't bound
-pub record EndsUnbound (names : List (List ℕ)) (ts rest : List Token) (name : Item) : Type 0 where
-  pub items : List Item
-  pub r : Option Redirection
-  pub c : Command
-  pub is : IsItems ts items r rest
-  pub form : command_form name items r ≡ Some c
-  pub unknown : knows names items r ≡ false
-
-pub ends_ill : {names : List (List ℕ)} {b : PartialCommand} {ts rest : List Token} {name : Item} {line : ℕ} (f : ScriptFault) → IsPartial b ts rest name line → AtSeparator rest → ended_command names b ≡ Err f → ((f ≡ in_line line reasons.Shape) × HasNoForm name ts) ⊎ ((f ≡ in_line line reasons.Unsupported) × EndsUnbound names ts rest name)
+pub ends_ill : {names : List (List ℕ)} {b : PartialCommand} {ts rest : List Token} {name : Item} {line : ℕ} (f : ScriptFault) → IsPartial b ts rest name line → AtSeparator rest → ended_command names b ≡ Err f → ((f ≡ in_line line reasons.Shape) × HasNoForm name ts) ⊎ ((f ≡ in_line line reasons.Unsupported) × ((c : Command) × EndsWell names false ts rest name c))
 ends_ill {names} {b} {ts} {rest} {name} {line} f g a h = elim (formed_err b.line (is_unfinished b) (command_form b.name b.items b.redirection) (knows names b.items b.redirection) f h) [
   | inl i ↦ inl (
     rw g.line_is at i.0,
@@ -181,25 +168,20 @@ ends_ill {names} {b} {ts} {rest} {name} {line} f g a h = elim (formed_err b.line
   )
   | inr u ↦ inr (
     rw g.line_is at u.0,
-    record {
-      items = b.items;
-      r = b.redirection;
-      c = u.2.0;
-      is = g.takes b.items b.redirection rest (takes_end b.is_ill b.awaits b.redirection b.items rest a u.1);
-      form = subst (λ (x : Item). command_form x b.items b.redirection ≡ Some u.2.0) g.name_is u.2.1;
-      unknown = u.3;
-    },
+    (
+      u.2.0,
+      record {
+        items = b.items;
+        r = b.redirection;
+        is = g.takes b.items b.redirection rest (takes_end b.is_ill b.awaits b.redirection b.items rest a u.1);
+        form = subst (λ (x : Item). command_form x b.items b.redirection ≡ Some u.2.0) g.name_is u.2.1;
+        known = u.3;
+      },
+    ),
   )
 ]
 
-pub record TestUnbound (names : List (List ℕ)) (ts rest : List Token) (name : Item) : Type 0 where
-  pub items : List Item
-  pub c : Condition
-  pub is : IsItems ts items None rest
-  pub form : condition_form name items ≡ Some c
-  pub unknown : knows names items None ≡ false
-
-pub test_ill : {names : List (List ℕ)} {b : PartialCommand} {ts rest : List Token} {name : Item} {line : ℕ} (f : ScriptFault) → IsPartial b ts rest name line → AtSeparator rest → ended_condition names b ≡ Err f → ((f ≡ in_line line reasons.Shape) × HasNoTest name ts) ⊎ ((f ≡ in_line line reasons.Unsupported) × TestUnbound names ts rest name)
+pub test_ill : {names : List (List ℕ)} {b : PartialCommand} {ts rest : List Token} {name : Item} {line : ℕ} (f : ScriptFault) → IsPartial b ts rest name line → AtSeparator rest → ended_condition names b ≡ Err f → ((f ≡ in_line line reasons.Shape) × HasNoTest name ts) ⊎ ((f ≡ in_line line reasons.Unsupported) × ((c : Condition) × EndsTest names false ts rest name c))
 test_ill {names} {b} {ts} {rest} {name} {line} f g a h = elim (formed_err b.line (is_unfinished b) (no_redirection b.redirection (condition_form b.name b.items)) (knows names b.items b.redirection) f h) [
   | inl i ↦ inl (
     rw g.line_is at i.0,
@@ -211,12 +193,14 @@ test_ill {names} {b} {ts} {rest} {name} {line} f g a h = elim (formed_err b.line
       let n = no_redirection_is b.redirection (condition_form b.name b.items) u.2.0 u.2.1 in
       inr (
         rw g.line_is at u.0,
-        record {
-          items = b.items;
-          c = u.2.0;
-          is = subst (λ (x : Option Redirection). IsItems ts b.items x rest) n.0 (g.takes b.items b.redirection rest (takes_end b.is_ill b.awaits b.redirection b.items rest a u.1));
-          form = subst (λ (x : Item). condition_form x b.items ≡ Some u.2.0) g.name_is n.1;
-          unknown = subst (λ (x : Option Redirection). knows names b.items x ≡ false) n.0 u.3;
-        },
+        (
+          u.2.0,
+          record {
+            items = b.items;
+            is = subst (λ (x : Option Redirection). IsItems ts b.items x rest) n.0 (g.takes b.items b.redirection rest (takes_end b.is_ill b.awaits b.redirection b.items rest a u.1));
+            form = subst (λ (x : Item). condition_form x b.items ≡ Some u.2.0) g.name_is n.1;
+            known = subst (λ (x : Option Redirection). knows names b.items x ≡ false) n.0 u.3;
+          },
+        ),
       )
 ]

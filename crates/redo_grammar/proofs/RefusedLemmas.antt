@@ -29,16 +29,12 @@ use Rattle.redo_grammar.specs.Refusals.{ends_behind, loop_too_deep, no_name, end
 use Rattle.redo_grammar.specs.Refusals.{unbound_word, no_do, if_before_do, ends_before_do, do_alone, no_done_here}
 use Rattle.redo_grammar.specs.Refusals.{left_out, unknown, no_form, unbound, FaultStands}
 use Rattle.redo_script.proofs.BitLemmas.{never}
-use Rattle.redo_script.proofs.NameLemmas.{item}
+use Rattle.redo_script.proofs.NameLemmas.{item, spells_is}
 use Rattle.redo_grammar.proofs.CommandLemmas.{none_some}
-use Rattle.redo_grammar.proofs.OneTokenLemmas.{in_place, else_read, command_begins}
+use Rattle.redo_grammar.proofs.OneTokenLemmas.{in_place, command_begins}
 use Rattle.redo_grammar.proofs.PartialCommandLemmas.{IsPartial, begins, goes_word, goes_redirect, ends_well, EndsTest}
 use Rattle.redo_grammar.proofs.PartialCommandLemmas.{ends_test, ends_ill, test_ill}
-use Rattle.redo_grammar.proofs.FoundScriptLemmas.{if_opens, if_too_deep, for_opens, for_too_deep, then_out, do_out}
-use Rattle.redo_grammar.proofs.FoundScriptLemmas.{else_alone, else_in_loop, else_twice, else_early, fi_alone}
-use Rattle.redo_grammar.proofs.FoundScriptLemmas.{fi_in_loop, fi_early, fi_closes, done_alone, done_in_if, done_early}
-use Rattle.redo_grammar.proofs.FoundScriptLemmas.{done_closes, IsNoKeyword, word_kinds, name_outside, name_unknown}
-use Rattle.redo_grammar.proofs.FoundScriptLemmas.{for_named, for_unnamed, for_bound, skips_both, separates_on, parser}
+use Rattle.redo_grammar.proofs.FoundScriptLemmas.{IsNoKeyword, word_kinds, skips_both, separates_on, parser}
 use Rattle.redo_script.specs.declared.fault.Reason.TheVariants as reasons
 use Rattle.redo_grammar.specs.Refusals as refusals
 
@@ -150,9 +146,6 @@ refutes : {b : Bool} → b ≡ true → b ≡ false → ⊥
 refutes {b} h e = absurd (both_ways b e h)
 
 module _ (whole : List Token) where
-  some_same : {A : Type 0} {x y : A} → (let left : Option A = Some x in left ≡ Some y) → x ≡ y
-  some_same h = cc h
-
   record BehindIf (l : ℕ) (os : List Open) (s : Script) (ts : List Token) : Type 0 where
     w : Word
     is_if : spells w (codes "if") ≡ true
@@ -286,7 +279,7 @@ module _ (whole : List Token) where
           goes_on os (with_last s (simple b.line c finish)) ts fault f (place_more g.place (a_command {after = finish} w.is w.form w.known) sep) (full_last s (simple b.line c finish) refl) (rw e at h)
       go (Err x) e = elim (ends_ill x g.is_partial a e) [
         | inl i ↦ stands (in_line g.l reasons.Shape) fault g.place (no_form g.named i.1) (rw (e, i.0) at h)
-        | inr i ↦ stands (in_line g.l reasons.Unsupported) fault g.place (unbound i.1.is i.1.form i.1.unknown) (rw (e, i.0) at h)
+        | inr i ↦ stands (in_line g.l reasons.Unsupported) fault g.place (unbound i.1.1.is i.1.1.form i.1.1.known) (rw (e, i.0) at h)
       ]
 
   command_at_end : (b : PartialCommand) (os : List Open) (s : Script) (fault : ScriptFault) → InCommand b os s [] → (with_command (parser (in_command b) os s) b >>= λ q. unless_open q.opens q.so_far) ≡ Err fault → FaultStands whole fault
@@ -298,13 +291,13 @@ module _ (whole : List Token) where
           left_open os (with_last s (simple b.line c finish)) fault g.place (a_command w.is w.form w.known) (rw e at h)
       go (Err x) e = elim (ends_ill x g.is_partial tt e) [
         | inl i ↦ stands (in_line g.l reasons.Shape) fault g.place (no_form g.named i.1) (rw (e, i.0) at h)
-        | inr i ↦ stands (in_line g.l reasons.Unsupported) fault g.place (unbound i.1.is i.1.form i.1.unknown) (rw (e, i.0) at h)
+        | inr i ↦ stands (in_line g.l reasons.Unsupported) fault g.place (unbound i.1.1.is i.1.1.form i.1.1.known) (rw (e, i.0) at h)
       ]
 
   test_over : (b : PartialCommand) (os : List Open) (s : Script) (t : Token) (ts : List Token) (fault : ScriptFault) → AtSeparator (t ∷ ts) → Separates (t ∷ ts) ts → Refuses ts → InTest b os s (t ∷ ts) → (with_condition (parser (in_condition b) os s) b >>= λ q. parse_on q ts) ≡ Err fault → FaultStands whole fault
   test_over b os s t ts fault a sep f g h = go (ended_condition (names_in os) b) refl
     where
-      then_next : (c : Condition) → EndsTest (names_in os) g.behind (t ∷ ts) (item g.p g.w) c → BeforeThen g.l c os s ts
+      then_next : (c : Condition) → EndsTest (names_in os) true g.behind (t ∷ ts) (item g.p g.w) c → BeforeThen g.l c os s ts
       then_next c w = record {
         k = g.k;
         p = g.p;
@@ -328,7 +321,7 @@ module _ (whole : List Token) where
           f (before_then b.line c) os s fault (subst (λ (x : ℕ). BeforeThen x c os s ts) (sym g.is_partial.line_is) next) (rw e at h)
       go (Err x) e = elim (test_ill x g.is_partial a e) [
         | inl i ↦ stands (in_line g.l reasons.Shape) fault g.place (no_test g.is_if g.room g.named i.1) (rw (e, i.0) at h)
-        | inr i ↦ stands (in_line g.l reasons.Unsupported) fault g.place (unbound_test g.is_if g.room i.1.is i.1.form i.1.unknown) (rw (e, i.0) at h)
+        | inr i ↦ stands (in_line g.l reasons.Unsupported) fault g.place (unbound_test g.is_if g.room i.1.1.is i.1.1.form i.1.1.known) (rw (e, i.0) at h)
       ]
 
   test_at_end : (b : PartialCommand) (os : List Open) (s : Script) (fault : ScriptFault) → InTest b os s [] → (with_condition (parser (in_condition b) os s) b >>= λ q. fault_at {A = Script} b.line reasons.IfShape) ≡ Err fault → FaultStands whole fault
@@ -340,7 +333,7 @@ module _ (whole : List Token) where
           stands (in_line g.l reasons.IfShape) fault g.place (ends_before_then (a_condition g.is_if g.room w.is w.form w.known) (inl refl)) (rw (e, g.is_partial.line_is) at h)
       go (Err x) e = elim (test_ill x g.is_partial tt e) [
         | inl i ↦ stands (in_line g.l reasons.Shape) fault g.place (no_test g.is_if g.room g.named i.1) (rw (e, i.0) at h)
-        | inr i ↦ stands (in_line g.l reasons.Unsupported) fault g.place (unbound_test g.is_if g.room i.1.is i.1.form i.1.unknown) (rw (e, i.0) at h)
+        | inr i ↦ stands (in_line g.l reasons.Unsupported) fault g.place (unbound_test g.is_if g.room i.1.1.is i.1.1.form i.1.1.known) (rw (e, i.0) at h)
       ]
 
   -- what may come where then must
@@ -377,15 +370,16 @@ module _ (whole : List Token) where
 
   -- what may come in a loop's head
   name_here : (l k : ℕ) (os : List Open) (s : Script) (p : Bool) (w : Word) (ts : List Token) (fault : ScriptFault) → Refuses ts → BehindFor l os s (word k p w ∷ ts) → parse_on (parser (behind_for l) os s) (word k p w ∷ ts) ≡ Err fault → FaultStands whole fault
+  unfolding parse_on
   name_here l k os s p w ts fault f g h = go (name_of (item p w)) refl
     where
       go : (o : Option (List ℕ)) → name_of (item p w) ≡ o → FaultStands whole fault
-      go None e = stands (in_line k reasons.Shape) fault g.place (no_name {t = word k p w} g.is_for g.room (λ name e'. none_some (sym e ∙ e'))) (sym (for_unnamed l k p w ts os s e) ∙ h)
+      go None e = stands (in_line k reasons.Shape) fault g.place (no_name {t = word k p w} g.is_for g.room (λ name e'. none_some (sym e ∙ e'))) (rw e at h)
       go (Some name) e = elim (cases_Bool (is_bound (names_in os) name)) [
         | inl b ↦
-            let same : (name' : List ℕ) → name_of (item p w) ≡ Some name' → is_bound (names_in os) name' ≡ true = λ name' e'. (let n : name ≡ name' = some_same (sym e ∙ e') in subst (λ (x : List ℕ). is_bound (names_in os) x ≡ true) n b) in
-            stands (in_line k reasons.Shape) fault g.place (no_name {t = word k p w} g.is_for g.room same) (sym (for_bound l k p w name ts os s e b) ∙ h)
-        | inr new ↦ f (behind_name l name) os s fault (record { k = k; p = p; v = g.w; w = w; is_for = g.is_for; room = g.room; is_name = e; new = new; place = g.place }) (sym (for_named l k p w name ts os s e new) ∙ h)
+            let same : (name' : List ℕ) → name_of (item p w) ≡ Some name' → is_bound (names_in os) name' ≡ true = λ name' e'. (let both : Some name ≡ Some name' = sym e ∙ e' in let n : name ≡ name' = cc in subst (λ (x : List ℕ). is_bound (names_in os) x ≡ true) n b) in
+            stands (in_line k reasons.Shape) fault g.place (no_name {t = word k p w} g.is_for g.room same) (rw (e, b) at h)
+        | inr new ↦ f (behind_name l name) os s fault (record { k = k; p = p; v = g.w; w = w; is_for = g.is_for; room = g.room; is_name = e; new = new; place = g.place }) (rw (e, new) at h)
       ]
 
   in_here : (l : ℕ) (name : List ℕ) (k : ℕ) (os : List Open) (s : Script) (p : Bool) (w : Word) (ts : List Token) (fault : ScriptFault) → Refuses ts → BehindName l name os s (word k p w ∷ ts) → parse_on (parser (behind_name l name) os s) (word k p w ∷ ts) ≡ Err fault → FaultStands whole fault
@@ -422,55 +416,58 @@ module _ (whole : List Token) where
 
   -- a word where a command may stand
   if_here : (ts : List Token) → Refuses ts → (l : ℕ) (w : Word) (os : List Open) (s : Script) (fault : ScriptFault) → IsPlace (openings os) (is_empty s) whole (word l true w ∷ ts) → spells w (codes "if") ≡ true → parse_on (in_place os s) (word l true w ∷ ts) ≡ Err fault → FaultStands whole fault
+  unfolding parse_on
   if_here ts f l w os s fault g e h = elim (cases_Bool (nat_lt (ifs_in os) 16)) [
-    | inl lt ↦ f (behind_if l) os s fault (record { w = w; is_if = e; room = ltb-true (ifs_in os) 16 lt; place = g }) (sym (if_opens l w ts os s e lt) ∙ h)
-    | inr ge ↦ stands (in_line l reasons.TooDeep) fault g (too_deep e (ltb-false (ifs_in os) 16 ge)) (sym (if_too_deep l w ts os s e ge) ∙ h)
+    | inl lt ↦ f (behind_if l) os s fault (record { w = w; is_if = e; room = ltb-true (ifs_in os) 16 lt; place = g }) (rw (e, lt) at h)
+    | inr ge ↦ stands (in_line l reasons.TooDeep) fault g (too_deep e (ltb-false (ifs_in os) 16 ge)) (rw (e, ge) at h)
   ]
 
   for_here : (ts : List Token) → Refuses ts → (l : ℕ) (w : Word) (os : List Open) (s : Script) (fault : ScriptFault) → IsPlace (openings os) (is_empty s) whole (word l true w ∷ ts) → spells w (codes "for") ≡ true → parse_on (in_place os s) (word l true w ∷ ts) ≡ Err fault → FaultStands whole fault
+  unfolding parse_on
   for_here ts f l w os s fault g e h = elim (cases_Bool (nat_lt (length (names_in os)) 2)) [
-    | inl lt ↦ f (behind_for l) os s fault (record { w = w; is_for = e; room = ltb-true (length (names_in os)) 2 lt; place = g }) (sym (for_opens l w ts os s e lt) ∙ h)
-    | inr ge ↦ stands (in_line l reasons.TooDeep) fault g (loop_too_deep e (ltb-false (length (names_in os)) 2 ge)) (sym (for_too_deep l w ts os s e ge) ∙ h)
-  ]
-
-  else_in_if : (ts : List Token) → Refuses ts → (l : ℕ) (w : Word) (k : ℕ) (c : Condition) (first : Option Script) (before : Script) (os : List Open) (s : Script) (fault : ScriptFault) → IsPlace (openings (open_if k c first before ∷ os)) (is_empty s) whole (word l true w ∷ ts) → spells w (codes "else") ≡ true → parse_on (in_place (open_if k c first before ∷ os) s) (word l true w ∷ ts) ≡ Err fault → FaultStands whole fault
-  else_in_if ts f l w k c (Some first) before os s fault g e h = stands (in_line l reasons.IfShape) fault g (no_else_here e (λ x. refutes refl x.0)) (sym (else_twice l w ts k c first before os s e) ∙ h)
-  else_in_if ts f l w k c None before os s fault g e h = elim (cases_Bool (is_empty s)) [
-    | inl none ↦ stands (in_line l reasons.IfShape) fault g (no_else_here e (λ x. refutes none x.1)) (sym (else_early l w ts k c before os s e none) ∙ h)
-    | inr some ↦ f at_command (open_if k c (Some s) before ∷ os) finish fault (place_second g refl some (keyword e)) (sym (else_read (keyword e) k c before os s some) ∙ h)
+    | inl lt ↦ f (behind_for l) os s fault (record { w = w; is_for = e; room = ltb-true (length (names_in os)) 2 lt; place = g }) (rw (spells_is w (codes "for") e, lt) at h)
+    | inr ge ↦ stands (in_line l reasons.TooDeep) fault g (loop_too_deep e (ltb-false (length (names_in os)) 2 ge)) (rw (spells_is w (codes "for") e, ge) at h)
   ]
 
   else_here : (ts : List Token) → Refuses ts → (l : ℕ) (w : Word) (os : List Open) (s : Script) (fault : ScriptFault) → IsPlace (openings os) (is_empty s) whole (word l true w ∷ ts) → spells w (codes "else") ≡ true → parse_on (in_place os s) (word l true w ∷ ts) ≡ Err fault → FaultStands whole fault
-  else_here ts f l w [] s fault g e h = stands (in_line l reasons.IfShape) fault g (no_else_here e (λ x. x)) (sym (else_alone l w ts s e) ∙ h)
-  else_here ts f l w (open_if k c first before ∷ os) s fault g e h = else_in_if ts f l w k c first before os s fault g e h
-  else_here ts f l w (open_loop k name ws before ∷ os) s fault g e h = stands (in_line l reasons.IfShape) fault g (no_else_here e (λ x. x)) (sym (else_in_loop l w ts k name ws before os s e) ∙ h)
+  unfolding parse_on
+  else_here ts f l w [] s fault g e h = stands (in_line l reasons.IfShape) fault g (no_else_here e (λ x. x)) (rw (spells_is w (codes "else") e) at h)
+  else_here ts f l w (open_loop k name ws before ∷ os) s fault g e h = stands (in_line l reasons.IfShape) fault g (no_else_here e (λ x. x)) (rw (spells_is w (codes "else") e) at h)
+  else_here ts f l w (open_if k c (Some first) before ∷ os) s fault g e h = stands (in_line l reasons.IfShape) fault g (no_else_here e (λ x. refutes refl x.0)) (rw (spells_is w (codes "else") e) at h)
+  else_here ts f l w (open_if k c None before ∷ os) s fault g e h = elim (cases_Bool (is_empty s)) [
+    | inl none ↦ stands (in_line l reasons.IfShape) fault g (no_else_here e (λ x. refutes none x.1)) (rw (spells_is w (codes "else") e, none) at h)
+    | inr some ↦ f at_command (open_if k c (Some s) before ∷ os) finish fault (place_second g refl some (keyword e)) (rw (spells_is w (codes "else") e, some) at h)
+  ]
 
   fi_here : (ts : List Token) → Refuses ts → (l : ℕ) (w : Word) (os : List Open) (s : Script) (fault : ScriptFault) → IsPlace (openings os) (is_empty s) whole (word l true w ∷ ts) → spells w (codes "fi") ≡ true → parse_on (in_place os s) (word l true w ∷ ts) ≡ Err fault → FaultStands whole fault
-  fi_here ts f l w [] s fault g e h = stands (in_line l reasons.IfShape) fault g (no_fi_here e (λ x. x)) (sym (fi_alone l w ts s e) ∙ h)
-  fi_here ts f l w (open_loop k name ws before ∷ os) s fault g e h = stands (in_line l reasons.IfShape) fault g (no_fi_here e (λ x. x)) (sym (fi_in_loop l w ts k name ws before os s e) ∙ h)
+  unfolding parse_on
+  fi_here ts f l w [] s fault g e h = stands (in_line l reasons.IfShape) fault g (no_fi_here e (λ x. x)) (rw (spells_is w (codes "fi") e) at h)
+  fi_here ts f l w (open_loop k name ws before ∷ os) s fault g e h = stands (in_line l reasons.IfShape) fault g (no_fi_here e (λ x. x)) (rw (spells_is w (codes "fi") e) at h)
   fi_here ts f l w (open_if k c first before ∷ os) s fault g e h = elim (cases_Bool (is_empty s)) [
-    | inl none ↦ stands (in_line l reasons.IfShape) fault g (no_fi_here e (λ x. refutes none x)) (sym (fi_early l w ts k c first before os s e none) ∙ h)
+    | inl none ↦ stands (in_line l reasons.IfShape) fault g (no_fi_here e (λ x. refutes none x)) (rw (spells_is w (codes "fi") e, none) at h)
     | inr some ↦
         let inner : IsPlace (openings (open_if k c first before ∷ os)) false whole (word l true w ∷ ts) = subst (λ (x : Bool). IsPlace (openings (open_if k c first before ∷ os)) x whole (word l true w ∷ ts)) some g in
-        f (behind_fi l) os (closed (open_if k c first before) s) fault (record { k = k; has_else = is_some first; w = w; is_fi = e; inner = inner; outer = place_closed inner refl refl (keyword e); is_full = closed_full (open_if k c first before) s }) (sym (fi_closes l w ts k c first before os s e some) ∙ h)
+        f (behind_fi l) os (closed (open_if k c first before) s) fault (record { k = k; has_else = is_some first; w = w; is_fi = e; inner = inner; outer = place_closed inner refl refl (keyword e); is_full = closed_full (open_if k c first before) s }) (rw (spells_is w (codes "fi") e, some) at h)
   ]
 
   done_here : (ts : List Token) → Refuses ts → (l : ℕ) (w : Word) (os : List Open) (s : Script) (fault : ScriptFault) → IsPlace (openings os) (is_empty s) whole (word l true w ∷ ts) → spells w (codes "done") ≡ true → parse_on (in_place os s) (word l true w ∷ ts) ≡ Err fault → FaultStands whole fault
-  done_here ts f l w [] s fault g e h = stands (in_line l reasons.Shape) fault g (no_done_here e (λ x. x)) (sym (done_alone l w ts s e) ∙ h)
-  done_here ts f l w (open_if k c first before ∷ os) s fault g e h = stands (in_line l reasons.Shape) fault g (no_done_here e (λ x. x)) (sym (done_in_if l w ts k c first before os s e) ∙ h)
+  unfolding parse_on
+  done_here ts f l w [] s fault g e h = stands (in_line l reasons.Shape) fault g (no_done_here e (λ x. x)) (rw (spells_is w (codes "done") e) at h)
+  done_here ts f l w (open_if k c first before ∷ os) s fault g e h = stands (in_line l reasons.Shape) fault g (no_done_here e (λ x. x)) (rw (spells_is w (codes "done") e) at h)
   done_here ts f l w (open_loop k name ws before ∷ os) s fault g e h = elim (cases_Bool (is_empty s)) [
-    | inl none ↦ stands (in_line l reasons.Shape) fault g (no_done_here e (λ x. refutes none x)) (sym (done_early l w ts k name ws before os s e none) ∙ h)
+    | inl none ↦ stands (in_line l reasons.Shape) fault g (no_done_here e (λ x. refutes none x)) (rw (spells_is w (codes "done") e, none) at h)
     | inr some ↦
         let inner : IsPlace (openings (open_loop k name ws before ∷ os)) false whole (word l true w ∷ ts) = subst (λ (x : Bool). IsPlace (openings (open_loop k name ws before ∷ os)) x whole (word l true w ∷ ts)) some g in
-        f (behind_done l) os (closed (open_loop k name ws before) s) fault (record { k = k; name = name; w = w; is_done = e; inner = inner; outer = place_closed inner refl refl (keyword e); is_full = closed_full (open_loop k name ws before) s }) (sym (done_closes l w ts k name ws before os s e some) ∙ h)
+        f (behind_done l) os (closed (open_loop k name ws before) s) fault (record { k = k; name = name; w = w; is_done = e; inner = inner; outer = place_closed inner refl refl (keyword e); is_full = closed_full (open_loop k name ws before) s }) (rw (spells_is w (codes "done") e, some) at h)
   ]
 
   name_of_none : (ts : List Token) → Refuses ts → (l : ℕ) (w : Word) (os : List Open) (s : Script) (fault : ScriptFault) → IsPlace (openings os) (is_empty s) whole (word l true w ∷ ts) → IsNoKeyword w → parse_on (in_place os s) (word l true w ∷ ts) ≡ Err fault → FaultStands whole fault
+  unfolding parse_on
   name_of_none ts f l w os s fault g n h = elim (cases_Bool (is_one_of commands (item true w))) [
     | inl e ↦ f (in_command (begin_command l (item true w))) os s fault (record { l = l; p = true; w = w; behind = ts; named = e; is_partial = begins l (item true w) ts; place = g }) (sym (command_begins l true w ts os s e) ∙ h)
     | inr e5 ↦ elim (cases_Bool (is_one_of words_outside (item true w))) [
-      | inl e ↦ stands (in_line l reasons.Unsupported) fault g (left_out e) (sym (name_outside l w ts os s n e5 e) ∙ h)
-      | inr e ↦ stands (in_line l reasons.UnknownCommand) fault g (unknown (rw (n.0, n.1, n.2, n.3) refl) (rw (n.4, n.5, n.6) refl) e5 e) (sym (name_unknown l w ts os s n e5 e) ∙ h)
+      | inl e ↦ stands (in_line l reasons.Unsupported) fault g (left_out e) (rw (n.0, n.1, n.2, n.3, n.4, n.5, n.6, e5, e) at h)
+      | inr e ↦ stands (in_line l reasons.UnknownCommand) fault g (unknown (rw (n.0, n.1, n.2, n.3) refl) (rw (n.4, n.5, n.6) refl) e5 e) (rw (n.0, n.1, n.2, n.3, n.4, n.5, n.6, e5, e) at h)
     ]
   ]
 
@@ -480,11 +477,11 @@ module _ (whole : List Token) where
   word_here ts f l true w os s fault g h =
       word_kinds w
       (λ e. if_here ts f l w os s fault g e h)
-      (λ e. stands (in_line l reasons.IfShape) fault g (then_alone e) (sym (then_out l w ts os s e) ∙ h))
+      (λ e. stands (in_line l reasons.IfShape) fault g (then_alone e) (rw (spells_is w (codes "then") e) at h))
       (λ e. else_here ts f l w os s fault g e h)
       (λ e. fi_here ts f l w os s fault g e h)
       (λ e. for_here ts f l w os s fault g e h)
-      (λ e. stands (in_line l reasons.Shape) fault g (do_alone e) (sym (do_out l w ts os s e) ∙ h))
+      (λ e. stands (in_line l reasons.Shape) fault g (do_alone e) (rw (spells_is w (codes "do") e) at h))
       (λ e. done_here ts f l w os s fault g e h)
       (λ n. name_of_none ts f l w os s fault g n h)
 

@@ -60,14 +60,11 @@ by_pass text fault none h = elim (cases_Bool (interpreter_is_fit text)) [
         let same : f ≡ fault = same_fault f fault (rw e at k) in
         subst (λ (x : ScriptFault). IsRefused text x) same (by_tokens none fit (stops_tokens text f e))
 
-nul_first : (text : List ℕ) (f fault : ScriptFault) → nul_from 1 text ≡ Err f → script_in text ≡ Err fault → f ≡ fault
-unfolding script_in
-nul_first text f fault e h = same_fault f fault (rw e at h)
-
 pub refused_text : (text : List ℕ) (fault : ScriptFault) → script_in text ≡ Err fault → IsRefused text fault
+unfolding script_in
 refused_text text fault h = elim (nul_stands text 1) [
   | inl none ↦ by_pass text fault none h
   | inr f ↦
-      let same : f.0 ≡ fault = nul_first text f.0 fault f.1 h in
+      let same : f.0 ≡ fault = same_fault f.0 fault (rw f.1 at h) in
       subst (λ (x : ScriptFault). IsRefused text x) same (by_nul (record { before = f.2.before; after = f.2.after; is = f.2.is; is_first = f.2.is_first; fault_is = f.2.fault_is }))
 ]

@@ -9,12 +9,12 @@ use Rattle.redo_script.specs.Faults.{fault_at}
 use Rattle.redo_script.specs.Syntax.{byte, Word, Redirection, Command, Condition, Script, finish}
 use Rattle.redo_script.specs.Tokens.{Token, word, semicolon, newline, redirect}
 use Rattle.redo_script.specs.Forms.{Item, spells, is_named, command_form, condition_form, name_of, is_bound}
-use Rattle.redo_script.specs.Forms.{knows_word, knows}
+use Rattle.redo_script.specs.Forms.{knows}
 use Rattle.redo_grammar.specs.Grammar.{AtSeparator}
 use Rattle.redo_script.specs.Parsing.{Opening, an_if, a_loop, Nest, nest_in, in_if, PartialCommand, behind_if}
-use Rattle.redo_script.specs.Parsing.{behind_for, behind_name, in_words, before_do, Open, open_if, open_loop}
+use Rattle.redo_script.specs.Parsing.{behind_for, behind_name, before_do, Open, open_if, open_loop}
 use Rattle.redo_script.specs.Parsing.{opening_of, openings, ifs_in, names_in, is_empty, is_one_of, commands}
-use Rattle.redo_script.specs.Parsing.{words_outside, loop_words, if_words, is_unfinished, no_redirection}
+use Rattle.redo_script.specs.Parsing.{words_outside, loop_words, if_words, is_unfinished, no_redirection, closed, with_last}
 use Rattle.redo_script.specs.Parsing.{ended_command, ended_condition, unless_open, parse_on, statements_of}
 use Rattle.redo_script.specs.Parsing.{conditions}
 use Rattle.redo_grammar.specs.Refusals.{a_separator, behind_fi, behind_done, IsPart, bare, full, IsOpened, to_then}
@@ -26,20 +26,17 @@ use Rattle.redo_grammar.specs.Refusals.{then_alone, no_else_here, no_fi_here, lo
 use Rattle.redo_grammar.specs.Refusals.{ends_behind, loop_too_deep, no_name, ends_behind_for, no_in, redirected_words}
 use Rattle.redo_grammar.specs.Refusals.{unbound_word, no_do, if_before_do, ends_before_do, do_alone, no_done_here}
 use Rattle.redo_grammar.specs.Refusals.{left_out, unknown, no_form, unbound, FaultStands}
-use Rattle.redo_script.proofs.NameLemmas.{item}
+use Rattle.redo_script.proofs.NameLemmas.{item, spells_is}
 use Rattle.redo_grammar.proofs.CommandLemmas.{command_named, condition_named, not_named}
 use Rattle.redo_grammar.proofs.OneTokenLemmas.{parts, in_place, within, within_condition, awaiting_then, behind}
 use Rattle.redo_grammar.proofs.OneTokenLemmas.{past_done, items_at, items_read, condition_items_read, newlines_read}
 use Rattle.redo_grammar.proofs.OneTokenLemmas.{condition_ends, else_read, command_begins, if_begins, for_begins}
 use Rattle.redo_grammar.proofs.OneTokenLemmas.{words_end}
 use Rattle.redo_grammar.proofs.OnlyScriptLemmas.{command_read, block_read, if_read, list_read_on, loop_read}
-use Rattle.redo_grammar.proofs.FoundScriptLemmas.{if_opens, if_too_deep, for_opens, for_too_deep, then_out, do_out}
-use Rattle.redo_grammar.proofs.FoundScriptLemmas.{else_alone, else_in_loop, else_twice, else_early, fi_alone}
-use Rattle.redo_grammar.proofs.FoundScriptLemmas.{fi_in_loop, fi_early, fi_closes, done_alone, done_in_if, done_early}
-use Rattle.redo_grammar.proofs.FoundScriptLemmas.{done_closes, name_outside, name_unknown, for_unnamed, for_bound}
 use Rattle.redo_grammar.proofs.FoundScriptLemmas.{TakesOf, word_continues, redirect_continues, formed_ok, takes_end}
 use Rattle.redo_grammar.proofs.FoundScriptLemmas.{parser}
-use Rattle.redo_grammar.proofs.PartialCommandLemmas.{formed_err, no_redirection_is}
+use Rattle.redo_grammar.proofs.FoundScriptLemmas.{no_redirection_is}
+use Rattle.redo_grammar.proofs.PartialCommandLemmas.{formed_err}
 use Rattle.redo_script.specs.declared.fault.Reason.TheVariants as reasons
 
 -- Reading up to a place of the grammar
@@ -174,10 +171,6 @@ test_unbound (redirect k p ∷ ts) a l n items c os s e known = absurd a
 
 -- The rows of the table
 
--- one of these words has no name that isn't among them
-other_name : (names : List (List ℕ)) (p : Bool) (w : Word) → is_one_of names (item p w) ≡ true → (name : List ℕ) → is_one_of names (item true (map byte name)) ≡ false → is_named name (item p w) ≡ false
-other_name names p w m name out = not_named names name p w out m
-
 condition_ill : (l : ℕ) (ts : List Token) (os : List Open) (s : Script) → (AtOneOf conditions ts → ⊥) → (AtOneOf loop_words ts → ⊥) → parse_on (parser (behind_if l) os s) ts ≡ fault_at l reasons.IfShape
 unfolding parse_on
 condition_ill l [] os s n m = refl
@@ -189,31 +182,12 @@ condition_ill l (word k p w ∷ ts) os s n m = elim (cases_Bool (is_one_of condi
   | inr e ↦ elim (cases_Bool (is_one_of loop_words (item p w))) [ inl g ↦ absurd (m g) | inr g ↦ rw (e, g) refl ]
 ]
 
-condition_loop : (l k : ℕ) (p : Bool) (w : Word) (ts : List Token) (os : List Open) (s : Script) → is_one_of loop_words (item p w) ≡ true → parse_on (parser (behind_if l) os s) (word k p w ∷ ts) ≡ fault_at k reasons.Shape
-unfolding parse_on
-condition_loop l k p w ts os s m =
-    let no = other_name loop_words p w m in
-    let none : is_one_of conditions (item p w) ≡ false = rw (no (codes "test") refl, no (codes "true") refl, no (codes "false") refl) refl in
-    rw (none, m) refl
-
 then_ill : (t : Token) (ts : List Token) (l : ℕ) (c : Condition) (os : List Open) (s : Script) → IsNoThen t → parse_on (awaiting_then l c os s) (t ∷ ts) ≡ fault_at (line_of t) reasons.IfShape
 unfolding parse_on
 then_ill (semicolon k) ts l c os s n = refl
 then_ill (newline k) ts l c os s n = absurd n
 then_ill (redirect k a) ts l c os s n = refl
 then_ill (word k p w) ts l c os s n = let q = or_parts (is_named (codes "then") (item p w)) (is_one_of loop_words (item p w)) n in rw (q.0, q.1) refl
-
-then_loop : (k : ℕ) (p : Bool) (w : Word) (ts : List Token) (l : ℕ) (c : Condition) (os : List Open) (s : Script) → is_one_of loop_words (item p w) ≡ true → parse_on (awaiting_then l c os s) (word k p w ∷ ts) ≡ fault_at k reasons.Shape
-unfolding parse_on
-then_loop k p w ts l c os s m = rw (other_name loop_words p w m (codes "then") refl, m) refl
-
-then_missing : (l : ℕ) (c : Condition) (os : List Open) (s : Script) → parse_on (awaiting_then l c os s) [] ≡ fault_at l reasons.IfShape
-unfolding parse_on
-then_missing l c os s = refl
-
-test_missing : (l : ℕ) (n : Item) (items : List Item) (c : Condition) (os : List Open) (s : Script) → condition_form n items ≡ Some c → knows (names_in os) items None ≡ true → parse_on (within_condition (parts l n items None) os s) [] ≡ fault_at l reasons.IfShape
-unfolding parse_on
-test_missing l n items c os s h known = rw (h, known) refl
 
 record TestRead (l : ℕ) (os : List Open) (s : Script) (ts mid : List Token) : Type 0 where
   name : Item
@@ -233,24 +207,24 @@ test_read (a_condition {l} {k} {p} {v} {w} {ts} {items} {c} e lt g h known) os s
   reads = if_begins l k v w p ts os s e (subst (λ (x : Nest). x.ifs < 16) (sym d) lt) (condition_named (item p w) items c h) ∙ condition_items_read g l (item p w) [] os s;
 }
 
-else_in_if : (l : ℕ) (w : Word) (ts : List Token) (k : ℕ) (c : Condition) (first : Option Script) (before : Script) (os : List Open) (s : Script) → spells w (codes "else") ≡ true → (MayElse (openings (open_if k c first before ∷ os)) (is_empty s) → ⊥) → parse_on (in_place (open_if k c first before ∷ os) s) (word l true w ∷ ts) ≡ fault_at l reasons.IfShape
-else_in_if l w ts k c (Some f) before os s e n = else_twice l w ts k c f before os s e
-else_in_if l w ts k c None before os s e n = elim (cases_Bool (is_empty s)) [ inl none ↦ else_early l w ts k c before os s e none | inr some ↦ absurd (n (refl, some)) ]
-
 else_ill : (l : ℕ) (w : Word) (ts : List Token) (os : List Open) (s : Script) → spells w (codes "else") ≡ true → (MayElse (openings os) (is_empty s) → ⊥) → parse_on (in_place os s) (word l true w ∷ ts) ≡ fault_at l reasons.IfShape
-else_ill l w ts [] s e n = else_alone l w ts s e
-else_ill l w ts (open_if k c first before ∷ os) s e n = else_in_if l w ts k c first before os s e n
-else_ill l w ts (open_loop k name ws before ∷ os) s e n = else_in_loop l w ts k name ws before os s e
+unfolding parse_on
+else_ill l w ts [] s e n = rw (spells_is w (codes "else") e) refl
+else_ill l w ts (open_loop k name ws before ∷ os) s e n = rw (spells_is w (codes "else") e) refl
+else_ill l w ts (open_if k c (Some f) before ∷ os) s e n = rw (spells_is w (codes "else") e) refl
+else_ill l w ts (open_if k c None before ∷ os) s e n = elim (cases_Bool (is_empty s)) [ inl none ↦ rw (spells_is w (codes "else") e, none) refl | inr some ↦ absurd (n (refl, some)) ]
 
 fi_ill : (l : ℕ) (w : Word) (ts : List Token) (os : List Open) (s : Script) → spells w (codes "fi") ≡ true → (MayFi (openings os) (is_empty s) → ⊥) → parse_on (in_place os s) (word l true w ∷ ts) ≡ fault_at l reasons.IfShape
-fi_ill l w ts [] s e n = fi_alone l w ts s e
-fi_ill l w ts (open_loop k name ws before ∷ os) s e n = fi_in_loop l w ts k name ws before os s e
-fi_ill l w ts (open_if k c first before ∷ os) s e n = elim (cases_Bool (is_empty s)) [ inl none ↦ fi_early l w ts k c first before os s e none | inr some ↦ absurd (n some) ]
+unfolding parse_on
+fi_ill l w ts [] s e n = rw (spells_is w (codes "fi") e) refl
+fi_ill l w ts (open_loop k name ws before ∷ os) s e n = rw (spells_is w (codes "fi") e) refl
+fi_ill l w ts (open_if k c first before ∷ os) s e n = elim (cases_Bool (is_empty s)) [ inl none ↦ rw (spells_is w (codes "fi") e, none) refl | inr some ↦ absurd (n some) ]
 
 done_ill : (l : ℕ) (w : Word) (ts : List Token) (os : List Open) (s : Script) → spells w (codes "done") ≡ true → (MayDone (openings os) (is_empty s) → ⊥) → parse_on (in_place os s) (word l true w ∷ ts) ≡ fault_at l reasons.Shape
-done_ill l w ts [] s e n = done_alone l w ts s e
-done_ill l w ts (open_if k c first before ∷ os) s e n = done_in_if l w ts k c first before os s e
-done_ill l w ts (open_loop k name ws before ∷ os) s e n = elim (cases_Bool (is_empty s)) [ inl none ↦ done_early l w ts k name ws before os s e none | inr some ↦ absurd (n some) ]
+unfolding parse_on
+done_ill l w ts [] s e n = rw (spells_is w (codes "done") e) refl
+done_ill l w ts (open_if k c first before ∷ os) s e n = rw (spells_is w (codes "done") e) refl
+done_ill l w ts (open_loop k name ws before ∷ os) s e n = elim (cases_Bool (is_empty s)) [ inl none ↦ rw (spells_is w (codes "done") e, none) refl | inr some ↦ absurd (n some) ]
 
 behind_ill : (l : ℕ) (ts : List Token) (os : List Open) (s : Script) → (AtSeparator ts → ⊥) → (AtOneOf loop_words ts → ⊥) → parse_on (behind l os s) ts ≡ fault_at l reasons.IfShape
 unfolding parse_on
@@ -259,10 +233,6 @@ behind_ill l (semicolon k ∷ ts) os s n m = absurd (n tt)
 behind_ill l (newline k ∷ ts) os s n m = absurd (n tt)
 behind_ill l (redirect k a ∷ ts) os s n m = refl
 behind_ill l (word k p w ∷ ts) os s n m = elim (cases_Bool (is_one_of loop_words (item p w))) [ inl g ↦ absurd (m g) | inr g ↦ rw g refl ]
-
-behind_loop : (l k : ℕ) (p : Bool) (w : Word) (ts : List Token) (os : List Open) (s : Script) → is_one_of loop_words (item p w) ≡ true → parse_on (behind l os s) (word k p w ∷ ts) ≡ fault_at k reasons.Shape
-unfolding parse_on
-behind_loop l k p w ts os s m = rw m refl
 
 past_ill : (l : ℕ) (ts : List Token) (os : List Open) (s : Script) → (AtSeparator ts → ⊥) → parse_on (past_done l os s) ts ≡ fault_at l reasons.Shape
 unfolding parse_on
@@ -273,19 +243,22 @@ past_ill l (redirect k a ∷ ts) os s n = refl
 past_ill l (word k p w ∷ ts) os s n = refl
 
 fi_behind : (l : ℕ) (w : Word) (ts : List Token) (os : List Open) (s : Script) → spells w (codes "fi") ≡ true → MayFi (openings os) (is_empty s) → (AtSeparator ts → ⊥) → (AtOneOf loop_words ts → ⊥) → parse_on (in_place os s) (word l true w ∷ ts) ≡ fault_at l reasons.IfShape
+unfolding parse_on
 fi_behind l w ts [] s e m n o = absurd m
 fi_behind l w ts (open_loop k name ws before ∷ os) s e m n o = absurd m
-fi_behind l w ts (open_if k c first before ∷ os) s e m n o = fi_closes l w ts k c first before os s e m ∙ behind_ill l ts os _ n o
+fi_behind l w ts (open_if k c first before ∷ os) s e m n o = rw (spells_is w (codes "fi") e, m) (behind_ill l ts os (closed (open_if k c first before) s) n o)
 
 fi_loop : (l : ℕ) (v : Word) (k : ℕ) (p : Bool) (w : Word) (ts : List Token) (os : List Open) (s : Script) → spells v (codes "fi") ≡ true → MayFi (openings os) (is_empty s) → is_one_of loop_words (item p w) ≡ true → parse_on (in_place os s) (word l true v ∷ word k p w ∷ ts) ≡ fault_at k reasons.Shape
+unfolding parse_on
 fi_loop l v k p w ts [] s e m n = absurd m
 fi_loop l v k p w ts (open_loop j name ws before ∷ os) s e m n = absurd m
-fi_loop l v k p w ts (open_if j c first before ∷ os) s e m n = fi_closes l v (word k p w ∷ ts) j c first before os s e m ∙ behind_loop l k p w ts os _ n
+fi_loop l v k p w ts (open_if j c first before ∷ os) s e m n = rw (spells_is v (codes "fi") e, m, n) refl
 
 done_behind : (l : ℕ) (w : Word) (ts : List Token) (os : List Open) (s : Script) → spells w (codes "done") ≡ true → MayDone (openings os) (is_empty s) → (AtSeparator ts → ⊥) → parse_on (in_place os s) (word l true w ∷ ts) ≡ fault_at l reasons.Shape
+unfolding parse_on
 done_behind l w ts [] s e m n = absurd m
 done_behind l w ts (open_if k c first before ∷ os) s e m n = absurd m
-done_behind l w ts (open_loop k name ws before ∷ os) s e m n = done_closes l w ts k name ws before os s e m ∙ past_ill l ts os _ n
+done_behind l w ts (open_loop k name ws before ∷ os) s e m n = rw (spells_is w (codes "done") e, m) (past_ill l ts os (closed (open_loop k name ws before) s) n)
 
 -- a loop's head
 name_ill : (t : Token) (ts : List Token) (l : ℕ) (os : List Open) (s : Script) → IsNoName (names_in os) t → parse_on (parser (behind_for l) os s) (t ∷ ts) ≡ fault_at (line_of t) reasons.Shape
@@ -296,12 +269,8 @@ name_ill (redirect k a) ts l os s n = refl
 name_ill (word k p w) ts l os s n = word_ill (name_of (item p w)) refl
   where
     word_ill : (o : Option (List ℕ)) → name_of (item p w) ≡ o → parse_on (parser (behind_for l) os s) (word k p w ∷ ts) ≡ fault_at k reasons.Shape
-    word_ill None e = for_unnamed l k p w ts os s e
-    word_ill (Some name) e = for_bound l k p w name ts os s e (n name e)
-
-name_missing : (l : ℕ) (os : List Open) (s : Script) → parse_on (parser (behind_for l) os s) [] ≡ fault_at l reasons.Shape
-unfolding parse_on
-name_missing l os s = refl
+    word_ill None e = rw e refl
+    word_ill (Some name) e = rw (e, n name e) refl
 
 in_ill : (ts : List Token) (l : ℕ) (name : List ℕ) (os : List Open) (s : Script) → (AtOneOf (codes "in" ∷ []) ts → ⊥) → parse_on (parser (behind_name l name) os s) ts ≡ fault_at l reasons.Shape
 unfolding parse_on
@@ -311,32 +280,12 @@ in_ill (newline k ∷ ts) l name os s n = refl
 in_ill (redirect k a ∷ ts) l name os s n = refl
 in_ill (word k p w ∷ ts) l name os s n = elim (cases_Bool (is_named (codes "in") (item p w))) [ inl e ↦ absurd (n (rw e refl)) | inr e ↦ rw e refl ]
 
-words_redirected : (l k : ℕ) (a : Bool) (ts : List Token) (name : List ℕ) (ws : List Word) (os : List Open) (s : Script) → parse_on (parser (in_words l name ws) os s) (redirect k a ∷ ts) ≡ fault_at k reasons.Shape
-unfolding parse_on
-words_redirected l k a ts name ws os s = refl
-
-word_unbound : (l k : ℕ) (p : Bool) (w : Word) (ts : List Token) (name : List ℕ) (ws : List Word) (os : List Open) (s : Script) → knows_word (names_in os) w ≡ false → parse_on (parser (in_words l name ws) os s) (word k p w ∷ ts) ≡ fault_at l reasons.Unsupported
-unfolding parse_on
-word_unbound l k p w ts name ws os s e = rw e refl
-
-words_missing : (l : ℕ) (name : List ℕ) (ws : List Word) (os : List Open) (s : Script) → parse_on (parser (in_words l name ws) os s) [] ≡ fault_at l reasons.Shape
-unfolding parse_on
-words_missing l name ws os s = refl
-
 do_ill : (t : Token) (ts : List Token) (l : ℕ) (name : List ℕ) (ws : List Word) (os : List Open) (s : Script) → IsNoDo t → parse_on (parser (before_do l name ws) os s) (t ∷ ts) ≡ fault_at (line_of t) reasons.Shape
 unfolding parse_on
 do_ill (semicolon k) ts l name ws os s n = refl
 do_ill (newline k) ts l name ws os s n = absurd n
 do_ill (redirect k a) ts l name ws os s n = refl
 do_ill (word k p w) ts l name ws os s n = let q = or_parts (is_named (codes "do") (item p w)) (is_one_of if_words (item p w)) n in rw (q.0, q.1) refl
-
-do_if : (k : ℕ) (p : Bool) (w : Word) (ts : List Token) (l : ℕ) (name : List ℕ) (ws : List Word) (os : List Open) (s : Script) → is_one_of if_words (item p w) ≡ true → parse_on (parser (before_do l name ws) os s) (word k p w ∷ ts) ≡ fault_at k reasons.IfShape
-unfolding parse_on
-do_if k p w ts l name ws os s m = rw (other_name if_words p w m (codes "do") refl, m) refl
-
-do_missing : (l : ℕ) (name : List ℕ) (ws : List Word) (os : List Open) (s : Script) → parse_on (parser (before_do l name ws) os s) [] ≡ fault_at l reasons.Shape
-unfolding parse_on
-do_missing l name ws os s = refl
 
 still_open : (opens : List Open) (s : Script) (o : Opening) (os : List Opening) → openings opens ≡ o ∷ os → unless_open opens s ≡ Err (fault_inside o)
 still_open [] s o os e = absurd (cc e)
@@ -346,28 +295,6 @@ still_open (open_if l c first before ∷ xs) s o os e =
 still_open (open_loop l name ws before ∷ xs) s o os e =
     let same : a_loop l name ≡ o = cc e in
     ap (λ (y : Opening). Err (fault_inside y)) same
-
-at_place_end : (opens : List Open) (s : Script) → parse_on (in_place opens s) [] ≡ unless_open opens s
-unfolding parse_on
-at_place_end opens s = refl
-
-at_fi_end : (opens : List Open) (s : Script) → parse_on (behind 0 opens s) [] ≡ unless_open opens s
-unfolding parse_on
-at_fi_end opens s = refl
-
-separator_ill : (l : ℕ) (ts : List Token) (os : List Open) (s : Script) → parse_on (in_place os s) (semicolon l ∷ ts) ≡ fault_at l reasons.Shape
-unfolding parse_on
-separator_ill l ts os s = refl
-
-redirection_ill : (l : ℕ) (a : Bool) (ts : List Token) (os : List Open) (s : Script) → parse_on (in_place os s) (redirect l a ∷ ts) ≡ fault_at l reasons.Shape
-unfolding parse_on
-redirection_ill l a ts os s = refl
-
-outside_ill : (l : ℕ) (w : Word) (ts : List Token) (os : List Open) (s : Script) → is_one_of words_outside (item true w) ≡ true → parse_on (in_place os s) (word l true w ∷ ts) ≡ fault_at l reasons.Unsupported
-outside_ill l w ts os s e =
-    let no = other_name words_outside true w e in
-    let none : is_one_of commands (item true w) ≡ false = rw (no (codes "echo") refl, no (codes "printf") refl, no (codes "cat") refl, no (codes "test") refl, no (codes "redo-ifchange") refl, no (codes "redo-ifcreate") refl, no (codes "redo-always") refl, no (codes "true") refl, no (codes "false") refl, no (codes "exit") refl) refl in
-    name_outside l w ts os s (no (codes "if") refl, no (codes "then") refl, no (codes "else") refl, no (codes "fi") refl, no (codes "for") refl, no (codes "do") refl, no (codes "done") refl) none e
 
 unknown_ill : (l : ℕ) (p : Bool) (w : Word) (ts : List Token) (os : List Open) (s : Script) → is_one_of (codes "if" ∷ if_words) (item p w) ≡ false → is_one_of loop_words (item p w) ≡ false → is_one_of commands (item p w) ≡ false → is_one_of words_outside (item p w) ≡ false → parse_on (in_place os s) (word l p w ∷ ts) ≡ fault_at l reasons.UnknownCommand
 unfolding parse_on
@@ -380,7 +307,7 @@ unknown_ill l true w ts os s e d f g =
     let q1 = or_parts (spells w (codes "for")) _ d in
     let q2 = or_parts (spells w (codes "do")) _ q1.1 in
     let q3 = or_parts (spells w (codes "done")) _ q2.1 in
-    name_unknown l w ts os s (p1.0, p2.0, p3.0, p4.0, q1.0, q2.0, q3.0) f g
+    rw (p1.0, p2.0, p3.0, p4.0, q1.0, q2.0, q3.0, f, g) refl
 
 -- what is open round a place, as both see it
 few_ifs : (opens : List Open) (os : List Opening) → openings opens ≡ os → (nest_in os).ifs < 16 → ifs_in opens < 16
@@ -393,11 +320,14 @@ same_names : (opens : List Open) (os : List Opening) → openings opens ≡ os �
 same_names opens os e = ap (λ (x : List Opening). (nest_in x).names) e
 
 wrong_read : {os : List Opening} {b : Bool} {rest : List Token} {fault : ScriptFault} → IsWrong os b rest fault → (opens : List Open) (s : Script) → openings opens ≡ os → is_empty s ≡ b → parse_on (in_place opens s) rest ≡ Err fault
-wrong_read (a_separator {l} {ts}) opens s e f = separator_ill l ts opens s
-wrong_read (a_redirection {a} {l} {ts}) opens s e f = redirection_ill l a ts opens s
-wrong_read (too_deep {os} {l} {w} {ts} i ge) opens s e f = if_too_deep l w ts opens s i (le-ltb (ifs_in opens) 16 (subst (λ (x : List Opening). 16 ≤ (nest_in x).ifs) (sym e) ge))
-wrong_read (no_condition {os} {l} {w} {ts} i lt n m) opens s e f = if_opens l w ts opens s i (lt-ltb (ifs_in opens) 16 (few_ifs opens os e lt)) ∙ condition_ill l ts opens s n m
-wrong_read (loop_behind_if {os} {p} {l} {k} {v} {w} {ts} i lt m) opens s e f = if_opens l v (word k p w ∷ ts) opens s i (lt-ltb (ifs_in opens) 16 (few_ifs opens os e lt)) ∙ condition_loop l k p w ts opens s m
+unfolding parse_on
+wrong_read a_separator opens s e f = refl
+wrong_read a_redirection opens s e f = refl
+wrong_read (too_deep i ge) opens s e f = rw (i, le-ltb (ifs_in opens) 16 (subst (λ (x : List Opening). 16 ≤ (nest_in x).ifs) (sym e) ge)) refl
+wrong_read (no_condition {os} {l} {ts} i lt n m) opens s e f = rw (i, lt-ltb (ifs_in opens) 16 (few_ifs opens os e lt)) (condition_ill l ts opens s n m)
+wrong_read (loop_behind_if {os} {p} {w} i lt m) opens s e f =
+    let no : (name : List ℕ) → is_one_of loop_words (item true (map byte name)) ≡ false → is_named name (item p w) ≡ false = λ name out. not_named loop_words name p w out m in
+    rw (i, lt-ltb (ifs_in opens) 16 (few_ifs opens os e lt), no (codes "test") refl, no (codes "true") refl, no (codes "false") refl, m) refl
 wrong_read (no_test {os} {p} {l} {k} {v} {w} {ts} i lt named n) opens s e f =
     if_begins l k v w p ts opens s i (few_ifs opens os e lt) named
     ∙ test_ill ts (parts l (item p w) [] None) opens s (λ items rest c t form. n items rest c (rw t.2 t.1) form)
@@ -410,51 +340,50 @@ wrong_read (no_then {os} {l} {t} {ts} {mid} {rest} g sep n) opens s e f =
     r.reads ∙ (condition_ends sep l r.name r.items r.c opens s r.form r.known ∙ then_ill t rest l r.c opens s n)
 wrong_read (loop_before_then {os} {p} {l} {k} {w} {ts} {mid} {rest} g sep m) opens s e f =
     let r = test_read g opens s (ap nest_in e) in
-    r.reads ∙ (condition_ends sep l r.name r.items r.c opens s r.form r.known ∙ then_loop k p w rest l r.c opens s m)
-wrong_read (ends_before_then {os} {l} {ts} {mid} g (inl none)) opens s e f =
+    r.reads ∙ (condition_ends sep l r.name r.items r.c opens s r.form r.known ∙ rw (not_named loop_words (codes "then") p w refl m, m) refl)
+wrong_read (ends_before_then {l} g (inl none)) opens s e f =
     let r = test_read g opens s (ap nest_in e) in
-    r.reads ∙ (ap (λ (x : List Token). parse_on (within_condition (parts l r.name r.items None) opens s) x) none ∙ test_missing l r.name r.items r.c opens s r.form r.known)
-wrong_read (ends_before_then {os} {l} {ts} {mid} g (inr sep)) opens s e f =
+    r.reads ∙ (ap (λ (x : List Token). parse_on (within_condition (parts l r.name r.items None) opens s) x) none ∙ rw (r.form, r.known) refl)
+wrong_read (ends_before_then {l} g (inr sep)) opens s e f =
     let r = test_read g opens s (ap nest_in e) in
-    r.reads ∙ (condition_ends sep l r.name r.items r.c opens s r.form r.known ∙ then_missing l r.c opens s)
-wrong_read (then_alone {l} {w} {ts} i) opens s e f = then_out l w ts opens s i
+    r.reads ∙ condition_ends sep l r.name r.items r.c opens s r.form r.known
+wrong_read (then_alone {w} i) opens s e f = rw (spells_is w (codes "then") i) refl
 wrong_read (no_else_here {os} {b} {l} {w} {ts} i n) opens s e f = else_ill l w ts opens s i (rw (e, f) n)
 wrong_read (no_fi_here {os} {b} {l} {w} {ts} i n) opens s e f = fi_ill l w ts opens s i (rw (e, f) n)
 wrong_read (behind_fi {os} {b} {l} {w} {ts} i m n o) opens s e f = fi_behind l w ts opens s i (rw (e, f) m) n o
 wrong_read (loop_behind_fi {os} {b} {p} {l} {k} {v} {w} {ts} i m n) opens s e f = fi_loop l v k p w ts opens s i (rw (e, f) m) n
-wrong_read (ends_inside {o} {os}) opens s e f = at_place_end opens s ∙ still_open opens s o os e
-wrong_read (ends_behind {o} {os} {ts} c) opens s e f =
+wrong_read (ends_inside {o} {os}) opens s e f = still_open opens s o os e
+wrong_read (ends_behind {o} {os} c) opens s e f =
     let r = command_read c in
-    r.reads opens s (ap nest_in e) tt ∙ (at_fi_end opens _ ∙ still_open opens _ o os e)
-wrong_read (loop_too_deep {os} {l} {w} {ts} i ge) opens s e f = for_too_deep l w ts opens s i (le-ltb (length (names_in opens)) 2 (subst (λ (x : List Opening). 2 ≤ length (nest_in x).names) (sym e) ge))
+    r.reads opens s (ap nest_in e) tt ∙ still_open opens (with_last s r.one) o os e
+wrong_read (loop_too_deep {w} i ge) opens s e f = rw (spells_is w (codes "for") i, le-ltb (length (names_in opens)) 2 (subst (λ (x : List Opening). 2 ≤ length (nest_in x).names) (sym e) ge)) refl
 wrong_read (no_name {os} {l} {w} {t} {ts} i lt n) opens s e f =
-    for_opens l w (t ∷ ts) opens s i (lt-ltb (length (names_in opens)) 2 (few_loops opens os e lt))
-    ∙ name_ill t ts l opens s (subst (λ (x : List Opening). IsNoName (nest_in x).names t) (sym e) n)
-wrong_read (ends_behind_for {os} {l} {w} i lt) opens s e f = for_opens l w [] opens s i (lt-ltb (length (names_in opens)) 2 (few_loops opens os e lt)) ∙ name_missing l opens s
+    rw (spells_is w (codes "for") i, lt-ltb (length (names_in opens)) 2 (few_loops opens os e lt)) (name_ill t ts l opens s (subst (λ (x : List Opening). IsNoName (nest_in x).names t) (sym e) n))
+wrong_read (ends_behind_for {os} {w} i lt) opens s e f = rw (spells_is w (codes "for") i, lt-ltb (length (names_in opens)) 2 (few_loops opens os e lt)) refl
 wrong_read (no_in {os} {p} {l} {k} {v} {w} {name} {ts} i lt is_name new n) opens s e f =
     for_begins l k v w p name ts opens s i (few_loops opens os e lt) is_name (ap (λ x. is_bound x name) (same_names opens os e) ∙ new)
     ∙ in_ill ts l name opens s n
-wrong_read (redirected_words {os} {a} {l} {k} {ts} {rest} (some_words {name} {ws} lt g)) opens s e f =
-    list_read_on g opens s (same_names opens os e) (few_loops opens os e lt) ∙ words_redirected l k a rest name ws opens s
-wrong_read (unbound_word {os} {p} {l} {k} {w} {ts} {rest} (some_words {name} {ws} lt g) new) opens s e f =
+wrong_read (redirected_words {os} (some_words lt g)) opens s e f =
     list_read_on g opens s (same_names opens os e) (few_loops opens os e lt)
-    ∙ word_unbound l k p w rest name ws opens s (ap (λ x. knows_word x w) (same_names opens os e) ∙ new)
+wrong_read (unbound_word {os} (some_words lt g) new) opens s e f =
+    list_read_on g opens s (same_names opens os e) (few_loops opens os e lt) ∙ rw (same_names opens os e, new) refl
 wrong_read (no_do {os} {l} {t} {ts} {mid} {rest} (some_words {name} {ws} lt g) sep n) opens s e f =
     list_read_on g opens s (same_names opens os e) (few_loops opens os e lt)
     ∙ (words_end sep l name ws opens s ∙ do_ill t rest l name ws opens s n)
 wrong_read (if_before_do {os} {p} {l} {k} {w} {ts} {mid} {rest} (some_words {name} {ws} lt g) sep m) opens s e f =
     list_read_on g opens s (same_names opens os e) (few_loops opens os e lt)
-    ∙ (words_end sep l name ws opens s ∙ do_if k p w rest l name ws opens s m)
-wrong_read (ends_before_do {os} {l} {ts} {mid} (some_words {name} {ws} lt g) (inl none)) opens s e f =
-    list_read_on g opens s (same_names opens os e) (few_loops opens os e lt)
-    ∙ (ap (λ (x : List Token). parse_on (parser (in_words l name ws) opens s) x) none ∙ words_missing l name ws opens s)
-wrong_read (ends_before_do {os} {l} {ts} {mid} (some_words {name} {ws} lt g) (inr sep)) opens s e f =
-    list_read_on g opens s (same_names opens os e) (few_loops opens os e lt)
-    ∙ (words_end sep l name ws opens s ∙ do_missing l name ws opens s)
-wrong_read (do_alone {l} {w} {ts} i) opens s e f = do_out l w ts opens s i
+    ∙ (words_end sep l name ws opens s ∙ rw (not_named if_words (codes "do") p w refl m, m) refl)
+wrong_read (ends_before_do {os} (some_words lt g) (inl none)) opens s e f =
+    list_read_on g opens s (same_names opens os e) (few_loops opens os e lt) ∙ rw none refl
+wrong_read (ends_before_do {os} {l} (some_words {name} {ws} lt g) (inr sep)) opens s e f =
+    list_read_on g opens s (same_names opens os e) (few_loops opens os e lt) ∙ words_end sep l name ws opens s
+wrong_read (do_alone {w} i) opens s e f = rw (spells_is w (codes "do") i) refl
 wrong_read (no_done_here {os} {b} {l} {w} {ts} i n) opens s e f = done_ill l w ts opens s i (rw (e, f) n)
 wrong_read (behind_done {os} {b} {l} {w} {ts} i m n) opens s e f = done_behind l w ts opens s i (rw (e, f) m) n
-wrong_read (left_out {l} {w} {ts} i) opens s e f = outside_ill l w ts opens s i
+wrong_read (left_out {w} i) opens s e f =
+    let no : (name : List ℕ) → is_one_of words_outside (item true (map byte name)) ≡ false → is_named name (item true w) ≡ false = λ name out. not_named words_outside name true w out i in
+    let none : is_one_of commands (item true w) ≡ false = rw (no (codes "echo") refl, no (codes "printf") refl, no (codes "cat") refl, no (codes "test") refl, no (codes "redo-ifchange") refl, no (codes "redo-ifcreate") refl, no (codes "redo-always") refl, no (codes "true") refl, no (codes "false") refl, no (codes "exit") refl) refl in
+    rw (no (codes "if") refl, no (codes "then") refl, no (codes "else") refl, no (codes "fi") refl, no (codes "for") refl, no (codes "do") refl, no (codes "done") refl, none, i) refl
 wrong_read (unknown {p} {l} {w} {ts} i d j k) opens s e f = unknown_ill l p w ts opens s i d j k
 wrong_read (no_form {p} {l} {w} {ts} named n) opens s e f =
     command_begins l p w ts opens s named

@@ -1,6 +1,6 @@
 -- A text is a script by the grammar where it is read as one, and has one tree.
 use Rattle.std.proofs.Common.{◌≡◌, ℕ, true, ◌==◌, List, [], ◌∷◌, Ok, refl, sym, ◌∙◌, inl, inr}
-use Rattle.std.proofs.lemmas.Bool.{cases_Bool, both_ways}
+use Rattle.std.proofs.lemmas.Bool.{cases_Bool}
 use Rattle.redo_script.specs.Faults.{◌>>=◌}
 use Rattle.redo_script.specs.Syntax.{Script}
 use Rattle.redo_script.specs.Tokens.{line_after}
@@ -14,13 +14,7 @@ use Rattle.redo_grammar.proofs.OnlyTokenLemmas.{only_tokens}
 use Rattle.redo_grammar.proofs.FoundTokenLemmas.{found_tokens}
 use Rattle.redo_grammar.proofs.OnlyScriptLemmas.{only_programs}
 use Rattle.redo_grammar.proofs.FoundScriptLemmas.{found_programs}
-
-nul_passes : (text : List ℕ) (line : ℕ) → has_no_nul text ≡ true → nul_from line text ≡ Ok []
-nul_passes [] line h = refl
-nul_passes (b ∷ bs) line h = elim (cases_Bool (b == 0)) [
-  | inl e ↦ absurd (both_ways true (sym (rw e at h)) refl)
-  | inr e ↦ rw e (nul_passes bs (line_after line b) (rw e at h))
-]
+use Rattle.redo_grammar.proofs.RefusedTextLemmas.{nul_passes}
 
 no_nul_found : (text : List ℕ) (line : ℕ) (x : List ℕ) → nul_from line text ≡ Ok x → has_no_nul text ≡ true
 no_nul_found [] line x h = refl
@@ -32,13 +26,10 @@ no_nul_found (b ∷ bs) line x h = elim (cases_Bool (b == 0)) [
 fit_found : (text x : List ℕ) → interpreter_of text ≡ Ok x → interpreter_is_fit text ≡ true
 fit_found text x h = elim (cases_Bool (interpreter_is_fit text)) [ inl e ↦ e | inr e ↦ never (rw e at h) ]
 
-fit_passes : (text : List ℕ) → interpreter_is_fit text ≡ true → interpreter_of text ≡ Ok []
-fit_passes text e = rw e refl
-
 pub only_scripts : (text : List ℕ) (s : Script) → IsScript text s → script_in text ≡ Ok s
 unfolding script_in
 only_scripts text s g =
-    rw (nul_passes text 1 g.no_nul, fit_passes text g.interpreter, only_tokens text g.tokens g.are_tokens) (only_programs g.tokens s g.statements)
+    rw (nul_passes text 1 g.no_nul, g.interpreter, only_tokens text g.tokens g.are_tokens) (only_programs g.tokens s g.statements)
 
 pub found_scripts : (text : List ℕ) (s : Script) → script_in text ≡ Ok s → IsScript text s
 unfolding script_in

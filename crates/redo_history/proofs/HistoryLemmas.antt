@@ -1,39 +1,31 @@
 -- After runs, the build with the book that they have left comes to what the build of the sources alone comes to.
-use Rattle.std.proofs.Common.{false, ◌≡◌, ◌↔◌, ℕ, zero, suc, ◌≤◌, true, not, ◌&&◌, cond, ◌⊎◌, inl, inr, List, [], ◌∷◌, length}
-use Rattle.std.proofs.Common.{Option, Some, None, map, refl, sym, ap, subst, ◌∙◌, arith, bytes_eq, if◌then◌else◌}
+use Rattle.std.proofs.Common.{false, ◌≡◌, ℕ, ◌≤◌, true, not, ◌&&◌, cond, inl, inr, List, [], length}
+use Rattle.std.proofs.Common.{Option, Some, None, map, refl, sym, ap, subst, ◌∙◌, arith}
 use Rattle.std.proofs.lemmas.Bool.{cases_Bool}
 use Rattle.std.proofs.lemmas.List.Elements.{All-contains, All-contains_itself, All-weaker}
-use Rattle.std.proofs.lemmas.Map.Text.{is_eq-slice_cmp}
-use Rattle.std.proofs.lemmas.Slice.Eq.{bytes_eq-Decides}
-use Rattle.std.specs.Cmp.Lexicographic.{slice_cmp}
-use Rattle.std.specs.Ordering.{nat_cmp, is_eq, match_ordering}
 use Rattle.std.specs.Prelude.{◌≢◌, All, Contains, option_and_then, unwrap_or}
-use Rattle.std.specs.declared.cmp.Ordering.{Ordering}
-use Rattle.std.specs.declared.cmp.Ordering.TheVariants.{Less, Equal, Greater}
 use Rattle.sha2.specs.Sha256.{sha256}
 use Rattle.redo_digest.specs.Digest.{state_of}
 use Rattle.redo_record.specs.Answers.{file_in as file_of}
 use Rattle.redo_record.specs.Paths.{IsAmong, is_among}
-use Rattle.redo_record.specs.declared.deps.Dep.{Dep}
 use Rattle.redo_record.specs.declared.outcome.Outcome.{Outcome}
-use Rattle.redo_record.specs.declared.outcome.Outcome.TheVariants.{Built, Cyclic}
+use Rattle.redo_record.specs.declared.outcome.Outcome.TheVariants.{Cyclic}
 use Rattle.redo_book.specs.Book.{Record, book_lines, text_of}
 use Rattle.redo_build.specs.Outcomes.{IsTooMany, final_outcome, needed_at, outcome_at}
 use Rattle.redo_build.specs.Rules.{Ask, Rules}
 use Rattle.redo_skip.specs.Checks.{Check, Checks, is_asked, known_file, told, with_book}
 use Rattle.redo_skip.specs.NewBook.{LastRun, check_by, checks_of, is_valid}
 use Rattle.redo_skip.specs.Sources.{File, Sources, without_book}
-use Rattle.redo_skip.specs.Truth.{IsBegun, IsSkipping, NoneCyclic}
+use Rattle.redo_skip.specs.Truth.{IsSkipping, NoneCyclic}
 use Rattle.redo_skip.proofs.CheckLemmas.{known-asked, known-fixed}
 use Rattle.redo_skip.proofs.NewBookLemmas.{are-checks, check-known}
 use Rattle.redo_skip.proofs.SkipLemmas.{skips}
 use Rattle.redo_step.specs.Limits.{LimitsView}
 use Rattle.redo_tree.specs.Tree.{IsTree, Tree, file_at, without}
 use Rattle.redo_which.specs.Candidates.{book_path}
-use Rattle.redo_past.specs.NewBook.{built_at, with_file}
+use Rattle.redo_past.specs.NewBook.{built_at}
 use Rattle.redo_past.specs.Past.{IsPast, PastView, set_aside}
 use Rattle.redo_past.proofs.PastLemmas.{all-sources}
-use Rattle.redo_report.specs.Reports.{IsReport, deps_of}
 use Rattle.redo_report.specs.declared.report.Report.{Report}
 use Rattle.redo_report.specs.declared.report.Row.{Row}
 use Rattle.redo_rules.specs.Build.{GivenView, checks_for, last_run_of, rules_for, sources_by, sources_for}
@@ -46,96 +38,9 @@ use Rattle.redo_history.proofs.MetLemmas.{IsOfRuns, OneText, StaysTree, TakesOut
 use Rattle.redo_history.proofs.MetLemmas.{source-file, source-in-tree, sources-tree, told-built}
 use Rattle.redo_history.proofs.KeptLemmas.{IsHonestMet, skips-met}
 use Rattle.redo_history.proofs.NeededLemmas.{IsHonestThere, skips-there}
-use Rattle.redo_history.proofs.ReportLemmas.{OnePast, RowOf, Shows, built-met, needed-row, one-files, one-rows, row-among}
+use Rattle.redo_history.proofs.ReportLemmas.{OnePast, built-met, needed-row, one-files, one-rows}
+use Rattle.redo_run.proofs.SoundLemmas.{begun-plain, others-of, plain-begun, shows-plain}
 use Rattle.redo_history.proofs.RulesLemmas.{needed-same as rules-needed, outcomes-same}
-
--- What a build with a book shows, where it comes to what the build without it comes to
-
-source-outcome : (r t : Rules) (limit : ℕ) (p : List ℕ) → r.is_source p ≡ true → t.is_source p ≡ true →
-    outcome_at r limit p ≡ outcome_at t limit p
-source-outcome r t zero p h k = rw (h, k) refl
-source-outcome r t (suc n) p h k = rw (h, k) refl
-
-module _ (s : Sources) (k : Checks) (request : List (List ℕ)) (limit : ℕ) (skips : IsSkipping s k request limit) where
-  abbrev w : Rules
-  w = with_book s k
-
-  abbrev o : Rules
-  o = without_book s
-
-  -- a path of a row comes to the same
-  row-same : (p : List ℕ) →
-      IsAmong (needed_at w request limit) p ⊎ (IsAmong request p × (s.is_source p ≡ true)) →
-      (final_outcome w limit p ≡ final_outcome o limit p) × (deps_of w limit p ≡ deps_of o limit p)
-  row-same p m = elim m [
-    | inl needed ↦
-        let plain = (skips.needed p).0 needed in (
-          ap (λ (x : Option Outcome). unwrap_or x Cyclic) (skips.outcomes p plain),
-          ap (λ (ds : List Dep). if s.is_source p then [] else ds) (skips.records p plain),
-        )
-    | inr source ↦ (
-      ap (λ (x : Option Outcome). unwrap_or x Cyclic) (source-outcome w o limit p source.1 source.1),
-      (let is = source.1 in rw is refl),
-    )
-  ]
-
-  needed-same : (p bytes : List ℕ) →
-      (IsAmong (needed_at w request limit) p × (final_outcome w limit p ≡ Built (Some bytes))) ↔
-      (IsAmong (needed_at o request limit) p × (final_outcome o limit p ≡ Built (Some bytes)))
-  needed-same p bytes = (
-    λ m. ((skips.needed p).0 m.0, sym (row-same p (inl m.0)).0 ∙ m.1),
-    λ m. let needed = (skips.needed p).1 m.0 in (needed, (row-same p (inl needed)).0 ∙ m.1),
-  )
-
-  shows-plain : (report : Report) → IsReport w request limit report → Shows o request limit report
-  shows-plain report is = record {
-    rows = λ p. (
-      λ m. elim ((is.rows p).0 m) [ inl needed ↦ inl ((skips.needed p).0 needed) | inr source ↦ inr source ],
-      λ m. (is.rows p).1 (elim m [ inl needed ↦ inl ((skips.needed p).1 needed) | inr source ↦ inr source ]),
-    );
-    outcomes =
-        All-weaker (Contains report.rows.items) (RowOf o limit)
-        (λ row listed.
-        let same = row-same row.path ((is.rows row.path).0 (row-among report.rows.items row listed)) in
-        let was = All-contains (RowOf w limit) report.rows.items row is.outcomes listed in
-        (was.0 ∙ same.0, was.1 ∙ same.1)) report.rows.items (All-contains_itself report.rows.items);
-    files = λ p bytes. (
-      λ m. (needed-same p bytes).0 ((is.files p bytes).0 m),
-      λ m. (is.files p bytes).1 ((needed-same p bytes).1 m),
-    );
-    rows_ordered = is.rows_ordered;
-    files_ordered = is.files_ordered;
-  }
-
-  begun-plain : (report : Report) → IsReport w request limit report → (p : List ℕ) → IsAmong report.begun.items p →
-      IsBegun o request limit p
-  begun-plain report is p m =
-      let was = (is.begun p).0 m in
-      skips.begun p (record { needed = was.0; ruled = was.1; begins = was.2 })
-
-  -- where nothing is in check each such script is begun
-  plain-begun : ((p : List ℕ) → k p ≡ None) → (report : Report) → IsReport w request limit report → (p : List ℕ) →
-      IsBegun o request limit p → IsAmong report.begun.items p
-  plain-begun none report is p m =
-      let begins : w.begins p (outcome_at w limit) ≡ true = let e = none p in rw e refl in
-      (is.begun p).1 ((skips.needed p).1 m.needed, m.ruled, begins)
-
--- The files but the book
-
-others-of : (files : List (List ℕ × List ℕ)) (text : List ℕ) → but_book (with_file files book_path text) ≡ but_book files
-others-of [] text = refl
-others-of (f ∷ files) text =
-    (elim (slice_cmp nat_cmp book_path f.0) as (λ (v : Ordering). slice_cmp nat_cmp book_path f.0 ≡ v →
-    but_book (match_ordering v ((book_path, text) ∷ f ∷ files) ((f.0, text) ∷ files) (f ∷ with_file files book_path text))
-    ≡ but_book (f ∷ files)) [
-      | Less ↦ λ e. refl
-      | Equal ↦ λ e.
-          let same : book_path ≡ f.0 =
-          (bytes_eq-Decides book_path f.0).0 (sym (is_eq-slice_cmp book_path f.0) ∙ ap is_eq e) in
-          let is : bytes_eq f.0 book_path ≡ true = (bytes_eq-Decides f.0 book_path).1 (sym same) in
-          rw is refl
-      | Greater ↦ λ e. ap (λ rest. if not (bytes_eq f.0 book_path) then f ∷ rest else rest) (others-of files text)
-    ]) refl
 
 -- The file that a check keeps
 

@@ -1,7 +1,7 @@
 -- A report can be made of a build whose needed targets are known in path order, where no source is requested.
-use Rattle.std.proofs.Common.{◌≡◌, ℕ, ◌<◌, ◌≤◌, ◌^◌, Bool, true, false, ◌&&◌, inl, inr, List, [], ◌∷◌, length, Option, Some, None}
+use Rattle.std.proofs.Common.{◌≡◌, ℕ, ◌<◌, ◌≤◌, ◌^◌, Bool, false, ◌&&◌, inl, inr, List, [], ◌∷◌, length, Option, Some, None}
 use Rattle.std.proofs.Common.{Vec, Global, map, filter, filter_map, option_map, refl, sym, ap, subst, ◌∙◌, le_refl}
-use Rattle.std.proofs.lemmas.Bool.{both_ways}
+use Rattle.std.proofs.lemmas.Bool.{both_ways, and_parts}
 use Rattle.std.proofs.lemmas.List.Elements.{All-from_recursion}
 use Rattle.std.specs.Ptr.{null_ptr}
 use Rattle.std.specs.List.{AllByRecursion}
@@ -26,7 +26,7 @@ use Rattle.redo_report.specs.declared.report.Report.{Report}
 use Rattle.redo_report.specs.declared.report.Row.{Row}
 use Rattle.redo_rules.specs.Build.{GivenView, rules_for}
 use Rattle.redo_rules.specs.Results.{IsResult}
-use Rattle.redo_history.proofs.ReportLemmas.{RowOf, among-item, item-among}
+use Rattle.redo_run.proofs.SoundLemmas.{RowOf}
 
 abbrev heap : Global
 heap = record { memory = record { seal = tt } }
@@ -56,10 +56,6 @@ told-file x p bytes (Built (Some b)) e =
     (ap (λ (f : List ℕ × List ℕ). f.0) same, ap (λ (f : List ℕ × List ℕ). Built (Some f.1)) same)
 told-file x p bytes (Failed why) e = absurd cc
 told-file x p bytes Cyclic e = absurd cc
-
-two : (a b : Bool) → (a && b) ≡ true → (a ≡ true) × (b ≡ true)
-two true b e = (refl, e)
-two false b e = absurd cc
 
 module _ (r : Rules) (limit : ℕ) (ps : List (List ℕ)) where
   abbrev pub row_for : List ℕ → Row
@@ -130,22 +126,22 @@ module _ (r : Rules) (limit : ℕ) (ps : List (List ℕ)) where
         λ m.
             let from = made-item file_for ps (p, bytes) (contained-item files (p, bytes) m) in
             let told = told-file from.0 p bytes (final_outcome r limit from.0) from.2 in (
-              into p (subst (λ (q : List ℕ). IsAmong ps q) told.0 (item-among ps from.0 from.1)),
+              into p (subst (λ (q : List ℕ). IsAmong ps q) told.0 from.1),
               sym (ap (λ (q : List ℕ). final_outcome r limit q) told.0) ∙ told.1,
             ),
         λ m.
             item-contained files (p, bytes)
-            (item-made file_for ps p (p, bytes) (among-item ps p (out p m.0))
+            (item-made file_for ps p (p, bytes) (out p m.0)
             (ap (λ (o : Outcome). with_path p (file_in o)) m.1)),
       );
       begun = λ p. (
         λ m.
-            let from = kept-item is_begun ps p (among-item begun p m) in
-            let so = two (r.has_rule p) (r.begins p (outcome_at r limit)) from.1 in
-            (into p (item-among ps p from.0), so.0, so.1),
+            let from = kept-item is_begun ps p m in
+            let so = and_parts (r.has_rule p) (r.begins p (outcome_at r limit)) from.1 in
+            (into p from.0, so.0, so.1),
         λ m.
             let ruled = m.1 in let begins = m.2 in
-            item-among begun p (item-kept is_begun ps p (among-item ps p (out p m.0)) (rw (ruled, begins) refl)),
+            item-kept is_begun ps p (out p m.0) (rw (ruled, begins) refl),
       );
       rows_ordered = subst AreAscending (sym (row-paths ps)) is.ordered;
       files_ordered = is.files_ordered;

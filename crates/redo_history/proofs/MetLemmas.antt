@@ -60,7 +60,8 @@ use Rattle.redo_rules.proofs.Public.{lawful_for, plain_lawful}
 use Rattle.redo_rules.proofs.WholeBookLemmas.{built-ended, built-target, report-whole}
 use Rattle.redo_history.specs.Histories.{AreRuns, HasBookOf, HasRecordsOf, Occurred, Occurs, Run, WasLeft, book_among}
 use Rattle.redo_history.specs.Histories.{book_left}
-use Rattle.redo_history.proofs.ReportLemmas.{RowOf, built-met, row-among}
+use Rattle.redo_history.proofs.ReportLemmas.{built-met, row-among}
+use Rattle.redo_run.proofs.SoundLemmas.{RowOf}
 
 -- what the laws say
 abbrev pub OneText : Type 0

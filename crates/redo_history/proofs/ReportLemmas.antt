@@ -1,10 +1,9 @@
 -- Reports of one build.
-use Rattle.std.proofs.Common.{◌≡◌, ◌↔◌, ℕ, suc, Bool, true, cond, ◌⊎◌, inl, inr, List, [], ◌∷◌, ◌++◌}
+use Rattle.std.proofs.Common.{◌≡◌, ◌↔◌, ℕ, suc, Bool, true, cond, inl, inr, List, [], ◌∷◌, ◌++◌}
 use Rattle.std.proofs.Common.{Option, Some, None, flat_map, map, refl, sym, ap, subst, ◌∙◌, arith, bytes_eq}
 use Rattle.std.proofs.Common.{if◌then◌else◌, codes}
 use Rattle.std.proofs.lemmas.Bool.{both_ways, cases_Bool}
 use Rattle.std.proofs.lemmas.Slice.Eq.{bytes_eq-Decides}
-use Rattle.std.specs.Arc.{arc_value}
 use Rattle.std.specs.Option.{option_or}
 use Rattle.std.specs.Prelude.{All, Contains, option_and_then}
 use Rattle.redo_digest.specs.Digest.{state_of}
@@ -12,7 +11,6 @@ use Rattle.redo_record.specs.Answers.{file_in}
 use Rattle.redo_record.specs.Paths.{IsAmong}
 use Rattle.redo_record.specs.declared.deps.Dep.{Dep}
 use Rattle.redo_record.specs.declared.outcome.Outcome.{Outcome}
-use Rattle.redo_record.specs.declared.outcome.Outcome.TheVariants.{Built}
 use Rattle.redo_book.specs.Book.{Record, book_lines, text_of}
 use Rattle.redo_book.specs.Noted.{new_record}
 use Rattle.redo_build.specs.Outcomes.{final_outcome, needed_at}
@@ -34,16 +32,9 @@ use Rattle.redo_rules.specs.Results.{IsGiven, IsResult, IsResultOn}
 use Rattle.redo_step.specs.Limits.{LimitsView}
 use Rattle.redo_history.specs.Answers.{AreSameReports}
 use Rattle.redo_run.specs.Skipping.{told_by_row}
+use Rattle.redo_run.proofs.SoundLemmas.{RowOf, Shows}
 
 -- Lists in order
-
-pub item-among : (ps : List (List ℕ)) (p : List ℕ) → IsItem ps p → IsAmong ps p
-item-among [] p m = m
-item-among (q ∷ ps) p m = elim m [ inl here ↦ inl here | inr later ↦ inr (item-among ps p later) ]
-
-pub among-item : (ps : List (List ℕ)) (p : List ℕ) → IsAmong ps p → IsItem ps p
-among-item [] p m = m
-among-item (q ∷ ps) p m = elim m [ inl here ↦ inl here | inr later ↦ inr (among-item ps p later) ]
 
 same-paths : (ps : List (List ℕ)) → map (λ p. p) ps ≡ ps
 same-paths [] = refl
@@ -57,14 +48,10 @@ one-list ps qs up also same =
     same-list (λ p. p) ps qs
     (ascending-sorted (map (λ p. p) ps) (subst A (sym (same-paths ps)) up))
     (ascending-sorted (map (λ p. p) qs) (subst A (sym (same-paths qs)) also))
-    (λ p m. among-item qs p ((same p).0 (item-among ps p m)))
-    (λ p m. among-item ps p ((same p).1 (item-among qs p m)))
+    (λ p. (same p).0)
+    (λ p. (same p).1)
 
 -- Rows
-
--- a row of a build
-abbrev pub RowOf : Rules → ℕ → Row → Type 0
-RowOf r limit row = (row.outcome ≡ final_outcome r limit row.path) × (arc_value row.deps ≡ deps_of r limit row.path)
 
 -- what holds of each row holds of that of a path
 pub row-found : (P : Row → Type 0) (rows : List Row) (q : List ℕ) → All P rows →
@@ -84,9 +71,7 @@ row-found P (x ∷ xs) q all m = elim (cases_Bool (bytes_eq x.path q)) [
 
 -- the path of a row is one of those of the rows
 pub row-among : (rows : List Row) (row : Row) → Contains rows row → IsAmong (map (λ row. row.path) rows) row.path
-row-among rows row listed =
-    item-among (map (λ row. row.path) rows) row.path
-    (item-mapped (λ (row : Row). row.path) rows row (contained-item rows row listed))
+row-among rows row listed = item-mapped (λ (row : Row). row.path) rows row (contained-item rows row listed)
 
 -- the row of a needed target
 pub needed-row : (r : Rules) (request : List (List ℕ)) (limit : ℕ) (report : Report) → IsReport r request limit report →
@@ -105,16 +90,6 @@ built-met r request limit report is q m =
     ap (λ (o : Option Row). option_and_then (λ (x : Row). file_in x.outcome) o) row.1 ∙ ap file_in now
 
 -- Reports of the same rules
-
--- what a report of a build shows, but for what was begun
-pub record Shows (r : Rules) (request : List (List ℕ)) (limit : ℕ) (report : Report) : Type 0 where
-  pub rows : (p : List ℕ) → IsAmong (row_paths report) p ↔
-      (IsAmong (needed_at r request limit) p ⊎ (IsAmong request p × (r.is_source p ≡ true)))
-  pub outcomes : All (RowOf r limit) report.rows.items
-  pub files : (p bytes : List ℕ) → Contains report.files.items (p, bytes) ↔
-      (IsAmong (needed_at r request limit) p × (final_outcome r limit p ≡ Built (Some bytes)))
-  pub rows_ordered : AreAscending (row_paths report)
-  pub files_ordered : AreAscending (map (λ file. file.0) report.files.items)
 
 pub shows-report : (r : Rules) (request : List (List ℕ)) (limit : ℕ) (report : Report) → IsReport r request limit report →
     Shows r request limit report

@@ -11,7 +11,7 @@ use Rattle.std.specs.List.Sorted.{IsStrictlySortedBy}
 use Rattle.std.specs.Ordering.{is_eq, nat_cmp}
 use Rattle.std.specs.Prelude.{◌≢◌, Ok, IsSome, find, option_map}
 use Rattle.sha2.specs.Sha256.{sha256}
-use Rattle.redo_digest.specs.Digest.{state_of}
+use Rattle.redo_digest.specs.Digest.{State, state_of}
 use Rattle.redo_digest.proofs.DigestLemmas.{digest_of_content}
 use Rattle.redo_path.specs.Names.{IsBelowRoot, IsPath, parent_of}
 use Rattle.redo_path.specs.Resolve as paths
@@ -29,7 +29,7 @@ use Rattle.redo_record.specs.Progress.{Progress}
 use Rattle.redo_record.specs.declared.deps.Dep.{Dep}
 use Rattle.redo_record.specs.declared.deps.DepKind.TheVariants as kinds
 use Rattle.redo_record.specs.declared.outcome.Outcome.TheVariants.{Cyclic}
-use Rattle.redo_book.specs.Book.{IsBook, IsRecord, Record, book_lines, text_of}
+use Rattle.redo_book.specs.Book.{IsBook, IsEntry, IsRecord, Record, book_lines, text_of}
 use Rattle.redo_book.specs.declared.book.BookEntry.TheVariants.{Change}
 use Rattle.redo_build.specs.Rules.{Ask, Rules}
 use Rattle.redo_step.specs.Path.{resolved}
@@ -49,7 +49,7 @@ use Rattle.redo_history.specs.Histories.{NoneConfused, OccursSoFar}
 use Rattle.redo_history.specs.SmallHistory.{IsSmallHistory, file_of_head, first_book, first_tree, limits, line, next_tree}
 use Rattle.redo_history.specs.SmallHistory.{record_of_head, record_of_text, request, run_to, script_of_all}
 use Rattle.redo_history.specs.SmallHistory.{script_of_head, script_of_others, script_of_text}
-use Rattle.redo_history.proofs.MadeLemmas.{IsListed, all_files, begun, files, is-result, made_result, records, rows}
+use Rattle.redo_history.proofs.MadeLemmas.{IsListed, all_files, files, is-result, made_result, records, rows}
 use Rattle.redo_history.proofs.MetLemmas.{found-put}
 
 -- Trees
@@ -277,29 +277,17 @@ plain-listed = record {
   begun_fit = lit< tt;
 }
 
-first-begun : begun first_rules 3 needed ≡ needed
-unfolding script_in tokens_of read_on next_byte at_end statements_of parse_on is_plain meaning run resolved setting_by
-first-begun = refl
-
-next-begun : begun next_rules 3 needed ≡ codes "all" ∷ codes "text" ∷ []
-unfolding script_in tokens_of read_on next_byte at_end statements_of parse_on is_plain meaning run resolved setting_by
-next-begun = refl
-
-plain-begun : begun plain_rules 3 needed ≡ needed
-unfolding script_in tokens_of read_on next_byte at_end statements_of parse_on is_plain meaning run resolved setting_by
-plain-begun = refl
-
 abbrev file_of_text : List ℕ
 file_of_text = line (codes "text")
 
--- the records of `all` and `text` after the next run
-abbrev next_of_all : Record
-next_of_all = record {
+-- the record of `all` beside this state of `text`
+abbrev all_beside : State → Record
+all_beside text = record {
   target = codes "all";
   state = None;
   entries = Change (state_of (Some script_of_all)) (codes "all.do")
       ∷ Change (state_of (Some file_of_head)) (codes "head")
-      ∷ Change (state_of (Some file_of_text)) (codes "text") ∷ [];
+      ∷ Change text (codes "text") ∷ [];
 }
 
 abbrev next_of_text : Record
@@ -310,35 +298,24 @@ next_of_text = record {
 }
 
 abbrev next_book : List Record
-next_book = next_of_all ∷ record_of_head ∷ next_of_text ∷ []
+next_book = all_beside (state_of (Some file_of_text)) ∷ record_of_head ∷ next_of_text ∷ []
 
-first-records : records first_given first_rules needed ≡ first_book
-unfolding script_in tokens_of read_on next_byte at_end statements_of parse_on is_plain meaning run resolved setting_by
-first-records = refl
-
-next-records : records next_given next_rules needed ≡ next_book
-unfolding script_in tokens_of read_on next_byte at_end statements_of parse_on is_plain meaning run resolved setting_by
-next-records = refl
-
-plain-records : records plain_given plain_rules needed ≡ next_book
-unfolding script_in tokens_of read_on next_byte at_end statements_of parse_on is_plain meaning run resolved setting_by
-plain-records = refl
+all-is : (text : State) → IsEntry (Change text (codes "text")) → IsRecord (all_beside text)
+unfolding IsDistinct
+all-is text is = record {
+  target = below (codes "all") (λ h. cc) refl;
+  state = tt;
+  entries = (
+    (digest_of_content script_of_all, below (codes "all.do") (λ h. cc) refl),
+    ((digest_of_content file_of_head, below (codes "head") (λ h. cc) refl), (is, tt)),
+  );
+  once = ((refl, (refl, tt)), ((refl, tt), (tt, tt)));
+}
 
 first-each : AllByRecursion IsRecord first_book
 unfolding IsDistinct
 first-each = (
-  record {
-    target = below (codes "all") (λ h. cc) refl;
-    state = tt;
-    entries = (
-      (digest_of_content script_of_all, below (codes "all.do") (λ h. cc) refl),
-      (
-        (digest_of_content file_of_head, below (codes "head") (λ h. cc) refl),
-        ((tt, below (codes "text") (λ h. cc) refl), tt),
-      ),
-    );
-    once = ((refl, (refl, tt)), ((refl, tt), (tt, tt)));
-  },
+  all-is None (tt, below (codes "text") (λ h. cc) refl),
   (
     head-is,
     (
@@ -359,18 +336,7 @@ first-each = (
 next-each : AllByRecursion IsRecord next_book
 unfolding IsDistinct
 next-each = (
-  record {
-    target = below (codes "all") (λ h. cc) refl;
-    state = tt;
-    entries = (
-      (digest_of_content script_of_all, below (codes "all.do") (λ h. cc) refl),
-      (
-        (digest_of_content file_of_head, below (codes "head") (λ h. cc) refl),
-        ((digest_of_content file_of_text, below (codes "text") (λ h. cc) refl), tt),
-      ),
-    );
-    once = ((refl, (refl, tt)), ((refl, tt), (tt, tt)));
-  },
+  all-is (state_of (Some file_of_text)) (digest_of_content file_of_text, below (codes "text") (λ h. cc) refl),
   (
     head-is,
     (
@@ -441,25 +407,6 @@ row-there (row ∷ list) all p bytes e = elim (cases_Bool (bytes_eq row.path p))
   | inr other ↦ row-there list all.1 p bytes (rw other at e)
 ]
 
-first-nodes : AllByRecursion IsNodeThere first_tree
-first-nodes = (λ b e. absurd cc, (λ b e. e, (λ b e. e, (λ b e. e, tt))))
-
-next-nodes : AllByRecursion IsNodeThere next_tree
-next-nodes =
-    (λ b e. absurd cc, (λ b e. e, (λ b e. e, (λ b e. e, (λ b e. e, (λ b e. e, (λ b e. e, tt)))))))
-
-first-rows : AllByRecursion IsRowThere (rows first_rules 3 needed)
-unfolding script_in tokens_of read_on next_byte at_end statements_of parse_on is_plain meaning run resolved setting_by
-first-rows = (λ b e. absurd cc, (λ b e. e, (λ b e. absurd cc, tt)))
-
-next-rows : AllByRecursion IsRowThere (rows next_rules 3 needed)
-unfolding script_in tokens_of read_on next_byte at_end statements_of parse_on is_plain meaning run resolved setting_by
-next-rows = (λ b e. absurd cc, (λ b e. e, (λ b e. e, tt)))
-
-plain-decided : AllByRecursion (λ row. row.outcome ≢ Cyclic) (rows plain_rules 3 needed)
-unfolding script_in tokens_of read_on next_byte at_end statements_of parse_on is_plain meaning run resolved setting_by
-plain-decided = (λ e. cc, (λ e. cc, (λ e. cc, tt)))
-
 -- All together
 
 first-fit : length (all_files first_given first_rules needed) < 2 ^ 63
@@ -484,30 +431,32 @@ abbrev plain : Report
 plain = made_result plain_given plain_rules needed plain-listed plain-fit
 
 first-result : IsResult first_given first
+unfolding script_in tokens_of read_on next_byte at_end statements_of parse_on is_plain meaning run resolved setting_by
 first-result =
-    is-result first_given first_rules needed first-listed first-fit first-is_tree first-is_past refl
-    (subst (AllByRecursion IsRecord) (sym first-records) first-each)
+    is-result first_given first_rules needed first-listed first-fit first-is_tree first-is_past refl first-each
 
 next-result : IsResult next_given next
+unfolding script_in tokens_of read_on next_byte at_end statements_of parse_on is_plain meaning run resolved setting_by
 next-result =
-    is-result next_given next_rules needed next-listed next-fit next-is_tree next-is_past rules-same
-    (subst (AllByRecursion IsRecord) (sym next-records) next-each)
+    is-result next_given next_rules needed next-listed next-fit next-is_tree next-is_past rules-same next-each
 
 plain-result : IsResult plain_given plain
+unfolding script_in tokens_of read_on next_byte at_end statements_of parse_on is_plain meaning run resolved setting_by
 plain-result =
-    is-result plain_given plain_rules needed plain-listed plain-fit sources-is_tree plain-is_past refl
-    (subst (AllByRecursion IsRecord) (sym plain-records) next-each)
+    is-result plain_given plain_rules needed plain-listed plain-fit sources-is_tree plain-is_past refl next-each
 
 occurs : (p bytes : List ℕ) → OccursSoFar (run_to first ∷ []) next_tree next p bytes → content_at p ≡ Some bytes
+unfolding script_in tokens_of read_on next_byte at_end statements_of parse_on is_plain meaning run resolved setting_by
 occurs p bytes m = elim m [
   | inl now ↦ elim now [
-    | inl file ↦ file-there next_tree next-nodes p bytes file
-    | inr built ↦ row-there (rows next_rules 3 needed) next-rows p bytes built
+    | inl file ↦ file-there next_tree
+        (λ b e. absurd cc, (λ b e. e, (λ b e. e, (λ b e. e, (λ b e. e, (λ b e. e, (λ b e. e, tt))))))) p bytes file
+    | inr built ↦ row-there (rows next_rules 3 needed) (λ b e. absurd cc, (λ b e. e, (λ b e. e, tt))) p bytes built
   ]
   | inr before ↦ elim before [
     | inl once ↦ elim once [
-      | inl file ↦ file-there first_tree first-nodes p bytes file
-      | inr built ↦ row-there (rows first_rules 3 needed) first-rows p bytes built
+      | inl file ↦ file-there first_tree (λ b e. absurd cc, (λ b e. e, (λ b e. e, (λ b e. e, tt)))) p bytes file
+      | inr built ↦ row-there (rows first_rules 3 needed) (λ b e. absurd cc, (λ b e. e, (λ b e. absurd cc, tt))) p bytes built
     ]
     | inr none ↦ absurd none
   ]
@@ -518,6 +467,7 @@ none-confused p one other m n same =
     let both : Some one ≡ Some other = sym (occurs p one m) ∙ occurs p other n in cc
 
 is-small : IsSmallHistory first next plain
+unfolding script_in tokens_of read_on next_byte at_end statements_of parse_on is_plain meaning run resolved setting_by
 is-small = record {
   after = record {
     runs = (
@@ -531,20 +481,20 @@ is-small = record {
     );
     is_tree = next-is_tree;
     linked =
-        sym (found-put (files first_rules 3 needed) (text_of (book_lines (records first_given first_rules needed)))
-        ∙ ap (λ (b : List Record). Some (text_of (book_lines b))) first-records);
+        sym (found-put (files first_rules 3 needed) (text_of (book_lines (records first_given first_rules needed))));
   };
   is_plain = record {
     past = next_given.past;
     of_tree = record { is_past = next-is_past; of_tree = refl };
     alone = (plain_given, record { of_tree = record { is_past = plain-is_past; of_tree = refl }; requested = refl; within = refl }, plain-result);
-    none_cyclic = All-from_recursion (λ row. row.outcome ≢ Cyclic) (rows plain_rules 3 needed) plain-decided;
+    none_cyclic = All-from_recursion (λ row. row.outcome ≢ Cyclic) (rows plain_rules 3 needed)
+        (λ e. cc, (λ e. cc, (λ e. cc, tt)));
   };
   result = (next_given, record { of_tree = record { is_past = next-is_past; of_tree = refl }; requested = refl; within = refl }, next-result);
   none_confused = none-confused;
-  first_begun = first-begun;
-  next_begun = next-begun;
-  plain_begun = plain-begun;
+  first_begun = refl;
+  next_begun = refl;
+  plain_begun = refl;
 }
 
 pub small-history : (first : Report) × (next : Report) × (plain : Report) × IsSmallHistory first next plain

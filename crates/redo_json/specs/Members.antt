@@ -1,7 +1,7 @@
--- What the rows, rings and notes of a report are told as: tokens of JSON. `print` of the json crate gives their text.
+-- What the parts of rows, the rings and the notes of a report are told as: tokens of JSON. `print` of the json crate gives
+-- their text.
 use Rattle.std.specs.Prelude.{Bool, true, false, ℕ, List, [], ◌∷◌, ◌++◌, Option, Some, None, codes, decimal, flat_map, length}
-use Rattle.std.specs.Prelude.{◌==◌, if◌then◌else◌, is_some}
-use Rattle.std.specs.Arc.{arc_value}
+use Rattle.std.specs.Prelude.{◌==◌, if◌then◌else◌}
 use Rattle.std.specs.Str.{is_utf8}
 use Rattle.std.specs.Str.Lossy.{utf8_lossy}
 use Rattle.hex.specs.Hex.{encode_lower}
@@ -12,7 +12,6 @@ use Rattle.redo_record.specs.declared.deps.DepKind.TheVariants as kinds
 use Rattle.redo_record.specs.declared.outcome.Outcome.{Outcome}
 use Rattle.redo_record.specs.declared.outcome.Outcome.TheVariants as outcomes
 use Rattle.redo_report.specs.ReportText.{why_words}
-use Rattle.redo_report.specs.declared.report.Row.{Row}
 use Rattle.redo_diagnose.specs.Diagnoses.{line_named}
 use Rattle.redo_diagnose.specs.declared.diagnosis.Diagnosis.{Diagnosis}
 use Rattle.redo_diagnose.specs.declared.diagnosis.Place.{Place}
@@ -104,24 +103,6 @@ begun_members found (Some reason) =
 abbrev pub deps_member : List Dep → List Token
 deps_member deps = (key (codes "deps") ∷ begin_array ∷ []) ++ flat_map entry_tokens deps ++ end_array ∷ []
 
--- what is known of paths: what the search finds, the reason for which a script was begun, if it was, and the diagnosis
--- of a target, if it has one
-pub record Known : Type 0 where
-  pub found : List ℕ → Found
-  pub reason : List ℕ → Option Reason
-  pub diagnosis : List ℕ → Option Diagnosis
-
--- what became of a row, and what is wrong with it
-unfoldable pub ended_members : Known → Row → List Token
-ended_members known row =
-    text_member (codes "outcome") (outcome_word row.outcome (is_some (known.reason row.path)))
-    ++ outcome_members row.outcome ++ diagnosis_member (known.diagnosis row.path)
-
-abbrev pub row_tokens : Known → Row → List Token
-row_tokens known row =
-    begin_object ∷ [] ++ path_members row.path ++ ended_members known row
-    ++ begun_members known.found (known.reason row.path) ++ deps_member (arc_value row.deps) ++ end_object ∷ []
-
 -- an object that has a path alone
 abbrev pub named_tokens : List ℕ → List Token
 named_tokens path = begin_object ∷ [] ++ path_members path ++ end_object ∷ []
@@ -149,11 +130,11 @@ unbuilt_tokens note = begin_object ∷ [] ++ path_members note.path ++ rule_memb
 abbrev pub unbuilt_member : List Unbuilt → List Token
 unbuilt_member notes = (key (codes "unbuilt") ∷ begin_array ∷ []) ++ flat_map unbuilt_tokens notes ++ end_array ∷ []
 
--- the notes of each kind, all of them
-unfoldable pub notes_tokens : Notes → List Token
-notes_tokens notes =
+-- the notes of each kind, all of them, and the files that the build doesn't need
+unfoldable pub notes_tokens : Notes → List (List ℕ) → List Token
+notes_tokens notes dead =
     begin_object ∷ [] ++ unbuilt_member notes.unbuilt.items ++ paths_member (codes "unmade") notes.unmade.items
-    ++ paths_member (codes "ruleless") notes.ruleless.items ++ end_object ∷ []
+    ++ paths_member (codes "ruleless") notes.ruleless.items ++ paths_member (codes "dead") dead ++ end_object ∷ []
 
-abbrev pub notes_member : Notes → List Token
-notes_member notes = key (codes "notes") ∷ notes_tokens notes
+abbrev pub notes_member : Notes → List (List ℕ) → List Token
+notes_member notes dead = key (codes "notes") ∷ notes_tokens notes dead

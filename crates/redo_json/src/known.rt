@@ -10,8 +10,11 @@ ghost use Rattle.redo_json.specs.inside.Known.{AreDiagnosesOf, AreReasonsOf, kno
 
 use redo_diagnose::Diagnosis;
 use redo_explain::{Begun, Reason};
-use redo_names::PathMap;
+use redo_names::{PathMap, PathSet};
+use redo_past::Past;
 use redo_path::Path;
+use redo_report::Row;
+use redo_told::failed_paths;
 use redo_tree::Tree;
 use std::alloc::{AllocError, Global};
 
@@ -25,27 +28,35 @@ pub(crate) type Diagnoses<'a> = PathMap<&'a Diagnosis>;
 #[derive(Drop)]
 pub(crate) struct Known<'a> {
     pub(crate) sources: &'a Tree,
+    /// The tree as it was read.
+    pub(crate) before: &'a Tree,
     pub(crate) reasons: Reasons<'a>,
     pub(crate) diagnoses: Diagnoses<'a>,
+    /// The paths of the rows that failed or are cyclic.
+    pub(crate) failed: PathSet,
 }
 
 impl<'a> Known<'a> {
-    /// By the sources of a build, its begun scripts and its diagnoses.
+    /// By the past and the rows of a build, its begun scripts and its diagnoses.
     pub(crate) fn of(
         alloc: Global,
-        sources: &'a Tree,
+        past: &'a Past,
+        rows: &[Row],
         begun: &[Begun<'a>],
         diagnoses: &'a [Diagnosis],
     ) -> Result<Known<'a>, AllocError>
         ensures { IfOk result (λ known.
-            known_by known ≡ known_of sources.now (map begun_view begun.now) diagnoses.now) }
+            known_by known ≡ known_of past.now rows.now (map begun_view begun.now) diagnoses.now) }
     {
         let reasons = reasons_of(alloc, begun)?;
         let diagnoses = diagnoses_of(alloc, diagnoses)?;
+        let failed = failed_paths(alloc, rows)?;
         Ok(Known {
-            sources,
+            sources: past.sources(),
+            before: past.tree(),
             reasons,
             diagnoses,
+            failed,
         })
     }
 

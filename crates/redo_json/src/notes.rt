@@ -1,4 +1,4 @@
-//! What is stale after a build, or soon will be.
+//! What is stale after a build, or soon will be, and what it doesn't need.
 
 ghost use Rattle.std.specs.Prelude.{◌≡◌, ◌++◌, OnOk, flat_map};
 ghost use Rattle.redo_json.specs.Members.{notes_member, notes_tokens, unbuilt_member, unbuilt_tokens};
@@ -6,6 +6,7 @@ ghost use Rattle.redo_json.specs.Members.{notes_member, notes_tokens, unbuilt_me
 use crate::members::Tokens;
 use crate::paths::{push_path, push_paths, push_rule};
 use redo_notes::{Notes, Unbuilt};
+use redo_path::Path;
 use std::alloc::{AllocError, Global};
 
 /// Adds a source that has a rule.
@@ -39,20 +40,31 @@ fn push_all_unbuilt(alloc: Global, out: &mut Tokens, notes: &[Unbuilt]) -> Resul
 
 /// Adds the value of notes.
 #[tactic(auto, unfolding(crate::specs::Members::notes_tokens))]
-fn push_tokens(alloc: Global, out: &mut Tokens, notes: &Notes) -> Result<(), AllocError>
-    ensures { OnOk result (out.new ≡ out.old ++ notes_tokens notes.now) }
+fn push_tokens(
+    alloc: Global,
+    out: &mut Tokens,
+    notes: &Notes,
+    dead: &[Path],
+) -> Result<(), AllocError>
+    ensures { OnOk result (out.new ≡ out.old ++ notes_tokens notes.now dead.now) }
 {
     out.begin_object()?;
     push_all_unbuilt(alloc, out, &notes.unbuilt)?;
     push_paths(alloc, out, "unmade", &notes.unmade)?;
     push_paths(alloc, out, "ruleless", &notes.ruleless)?;
+    push_paths(alloc, out, "dead", dead)?;
     out.end_object()
 }
 
-/// Adds the notes.
-pub(crate) fn push_notes(alloc: Global, out: &mut Tokens, notes: &Notes) -> Result<(), AllocError>
-    ensures { OnOk result (out.new ≡ out.old ++ notes_member notes.now) }
+/// Adds the notes, and the files that the build doesn't need.
+pub(crate) fn push_notes(
+    alloc: Global,
+    out: &mut Tokens,
+    notes: &Notes,
+    dead: &[Path],
+) -> Result<(), AllocError>
+    ensures { OnOk result (out.new ≡ out.old ++ notes_member notes.now dead.now) }
 {
     out.key("notes")?;
-    push_tokens(alloc, out, notes)
+    push_tokens(alloc, out, notes, dead)
 }

@@ -4,13 +4,15 @@ ghost use Rattle.std.specs.Prelude.{◌≡◌, ◌++◌, OnOk, bytes_eq, is_some
 ghost use Rattle.std.specs.Map.{lookup};
 ghost use Rattle.redo_which.specs.Rule.{found_of};
 ghost use Rattle.redo_explain.specs.Views.{reason_view};
-ghost use Rattle.redo_json.specs.Members.{begun_members, ended_members, row_tokens};
+ghost use Rattle.redo_json.specs.Members.{begun_members};
+ghost use Rattle.redo_json.specs.Rows.{ended_members, row_tokens};
 ghost use Rattle.redo_json.specs.Told.{count_of as count_in, has_word as has_this_word, rows_tokens};
 ghost use Rattle.redo_json.specs.inside.Known.{known_by, reasons_by};
 
 use crate::diagnoses::push_diagnosis;
 use crate::entries::push_record;
 use crate::known::{Known, Reasons};
+use crate::made::push_made;
 use crate::members::Tokens;
 use crate::outcomes::{outcome_word, push_outcome};
 use crate::paths::{push_path, push_readable};
@@ -48,7 +50,7 @@ fn push_begun(
 }
 
 /// Adds what became of a row, and what is wrong with it.
-#[tactic(auto, unfolding(crate::specs::Members::ended_members))]
+#[tactic(auto, unfolding(crate::specs::Rows::ended_members))]
 fn push_ended(
     alloc: Global,
     out: &mut Tokens,
@@ -71,6 +73,7 @@ fn push_row(alloc: Global, out: &mut Tokens, known: &Known<'_>, row: &Row) -> Re
     push_path(alloc, out, &row.path)?;
     push_ended(alloc, out, known, row)?;
     push_begun(alloc, out, known.sources, known.reason(&row.path))?;
+    push_made(alloc, out, known.before, &known.failed, row)?;
     push_record(alloc, out, &row.deps)?;
     out.end_object()
 }

@@ -1,8 +1,8 @@
 //! The whole text.
 
 ghost use Rattle.std.specs.Prelude.{◌≡◌, ◌++◌, IfOk, OnOk};
-ghost use Rattle.redo_json.specs.Told.{IsTold, built_members, count_member, other_members, report_tokens};
-ghost use Rattle.redo_json.specs.Told.{summary_tokens};
+ghost use Rattle.redo_json.specs.Told.{IsTold, beside_tokens, built_members, count_member, head_tokens};
+ghost use Rattle.redo_json.specs.Told.{other_members, report_tokens, summary_tokens};
 ghost use Rattle.redo_json.specs.inside.Known.{known_by, reasons_by};
 
 use crate::known::{Known, Reasons};
@@ -10,6 +10,7 @@ use crate::members::Tokens;
 use crate::notes::push_notes;
 use crate::rings::push_rings;
 use crate::rows::{count_of, push_rows};
+use crate::run::push_run;
 use redo_diagnose::Diagnosis;
 use redo_explain::reasons;
 use redo_notes::Notes;
@@ -17,6 +18,7 @@ use redo_past::Past;
 use redo_path::Path;
 use redo_report::{Report, Row};
 use redo_rings::Ring;
+use redo_told::RunInfo;
 use std::alloc::{AllocError, Global};
 
 /// What is told besides the report.
@@ -24,14 +26,16 @@ use std::alloc::{AllocError, Global};
 pub struct Told<'a> {
     /// The status with which the program ends.
     pub status: u8,
-    /// The paths that were requested.
-    pub request: &'a [Path],
+    /// What was asked for, by which program and when.
+    pub run: &'a RunInfo<'a>,
     /// Each is told in the row of its target; one whose target has no row isn't. Lines and columns count from 1,
     /// columns and lengths in bytes.
     pub diagnoses: &'a [Diagnosis],
     pub rings: &'a [Ring],
     /// All of them are told.
     pub notes: &'a Notes,
+    /// The files that builds left and that this one doesn't need, in path order. They are a fourth kind of notes.
+    pub dead: &'a [Path],
 }
 
 /// Adds how many rows have a word.
@@ -75,6 +79,22 @@ fn push_summary(out: &mut Tokens, rows: &[Row], reasons: &Reasons<'_>) -> Result
     out.end_object()
 }
 
+/// Adds the status and the run.
+fn push_head(alloc: Global, out: &mut Tokens, told: &Told<'_>) -> Result<(), AllocError>
+    ensures { OnOk result (out.new ≡ out.old ++ head_tokens told.now) }
+{
+    out.number("status", u64::from(told.status))?;
+    push_run(alloc, out, told.run)
+}
+
+/// Adds the rings and the notes.
+fn push_beside(alloc: Global, out: &mut Tokens, told: &Told<'_>) -> Result<(), AllocError>
+    ensures { OnOk result (out.new ≡ out.old ++ beside_tokens told.now) }
+{
+    push_rings(alloc, out, told.rings)?;
+    push_notes(alloc, out, told.notes, told.dead)
+}
+
 /// The tokens of a report's text.
 fn tokens_of(
     alloc: Global,
@@ -83,16 +103,15 @@ fn tokens_of(
     told: &Told<'_>,
 ) -> Result<Tokens, AllocError>
     ensures { IfOk result (λ tokens. tokens ≡
-        report_tokens (known_by known.now) told.now.status told.now.rings.now told.now.notes.now rows.now) }
+        report_tokens (known_by known.now) told.now rows.now) }
 {
     let mut out = Tokens::new(alloc);
     out.begin_object()?;
-    out.number("status", u64::from(told.status))?;
+    push_head(alloc, &mut out, told)?;
     out.begin_array("targets")?;
     push_rows(alloc, &mut out, known, rows)?;
     out.end_array()?;
-    push_rings(alloc, &mut out, told.rings)?;
-    push_notes(alloc, &mut out, told.notes)?;
+    push_beside(alloc, &mut out, told)?;
     out.key("summary")?;
     push_summary(&mut out, rows, &known.reasons)?;
     out.end_object()?;
@@ -110,8 +129,8 @@ pub fn json(
 ) -> Result<Vec<u8>, AllocError>
     ensures { IfOk result (λ text. IsTold past.now report.now told.now text.items) }
 {
-    let begun = reasons(alloc, past, told.request, report)?;
-    let known = Known::of(alloc, past.sources(), &begun, told.diagnoses)?;
+    let begun = reasons(alloc, past, told.run.request, report)?;
+    let known = Known::of(alloc, past, &report.rows, &begun, told.diagnoses)?;
     let tokens = tokens_of(alloc, &known, &report.rows, told)?;
     let text = tokens.into_line()?;
     Ok(text)

@@ -23,7 +23,7 @@ use Rattle.redo_past.specs.Past.{PastView, intact_record}
 use Rattle.redo_step.specs.Limits.{LimitsView}
 use Rattle.redo_rules.specs.Build.{GivenView, checks_for, last_run_of, sources_for}
 use Rattle.redo_why.proofs.ListedLemmas.{check-altered, check-intact}
-use Rattle.redo_why.specs.Verdicts.{Drops, Unsure, mark_checked}
+use Rattle.redo_why.specs.Verdicts.{mark_checked}
 use Rattle.redo_ood.specs.Listing.{run_over}
 use Rattle.redo_ood.specs.inside.Rows.{AreItems, AreRows, IsItem}
 use Rattle.redo_ood.specs.declared.verdicts.RowItem.{RowItem}
@@ -70,14 +70,10 @@ kept-none file r h = elim (cases_Bool (is_intact file r)) [
   | inr f ↦ f
 ]
 
-unrecorded-unchecked : (s : Sources) (last : LastRun) (request : List (List ℕ)) (q : List ℕ) → record_at last.book q ≡ None →
-    checks_of s last request q ≡ None
-unrecorded-unchecked s last request q none = rw none refl
-
 altered-unchecked : (s : Sources) (last : LastRun) (request : List (List ℕ)) (q : List ℕ) →
     kept_of last.file (record_at last.book q) ≡ None → checks_of s last request q ≡ None
 altered-unchecked s last request q lost = elim (cases_Option (record_at last.book q)) [
-  | inl none ↦ unrecorded-unchecked s last request q none
+  | inl none ↦ rw none refl
   | inr some ↦
       check-altered s last request q some.0 some.1
       (kept-none last.file some.0 (ap (kept_of last.file) (sym some.1) ∙ lost))

@@ -13,19 +13,11 @@ use Rattle.std.specs.Ordering.{nat_cmp}
 use Rattle.std.specs.Prelude.{◌↔◌}
 use Rattle.std.specs.Str.{bytes_eq}
 use Rattle.redo_names.specs.Paths.{AreDistinct, IsAmong}
-use Rattle.redo_past.proofs.ItemLemmas.{IsItem, contained-item, item-contained}
-
-among-item : (ps : List (List ℕ)) (p : List ℕ) → IsAmong ps p → IsItem ps p
-among-item [] p m = absurd m
-among-item (q ∷ ps) p m = elim m [ inl here ↦ inl here | inr later ↦ inr (among-item ps p later) ]
-
-item-among : (ps : List (List ℕ)) (p : List ℕ) → IsItem ps p → IsAmong ps p
-item-among [] p m = absurd m
-item-among (q ∷ ps) p m = elim m [ inl here ↦ inl here | inr later ↦ inr (item-among ps p later) ]
+use Rattle.redo_past.proofs.ItemLemmas.{contained-item, item-contained}
 
 moved : (ps qs : List (List ℕ)) (p : List ℕ) → IsPermutation ps qs → IsAmong ps p → IsAmong qs p
 moved ps qs p same m =
-    item-among qs p (contained-item qs p (Contains-permutation ps qs p same (item-contained ps p (among-item ps p m))))
+    contained-item qs p (Contains-permutation ps qs p same (item-contained ps p m))
 
 -- a list in another order has the same paths
 pub same-among : (ps qs : List (List ℕ)) (p : List ℕ) → IsPermutation ps qs → IsAmong qs p ↔ IsAmong ps p

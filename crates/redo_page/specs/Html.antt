@@ -1,4 +1,4 @@
--- Texts in HTML: how bytes are shown and escaped, and how HTML reads what was escaped.
+-- Texts on a page: how bytes are shown and escaped, in HTML and in JSON, and how both read what was escaped.
 use Rattle.std.specs.Prelude.{◌≡◌, ℕ, zero, suc, ◌/◌, ◌%◌, Bool, false, ◌==◌, ◌&&◌, ◌||◌, not, nat_lt, List, [], ◌∷◌}
 use Rattle.std.specs.Prelude.{◌++◌, drop, length, take}
 use Rattle.std.specs.Prelude.{codes, flat_map, if◌then◌else◌, slice_index}
@@ -73,3 +73,31 @@ pub data Reads : List ℕ → List ℕ → Type 0 where
   apos : (text bytes : List ℕ) → Reads text bytes → Reads (codes "&#39;" ++ text) (39 ∷ bytes)
   plain : (byte : ℕ) (text bytes : List ℕ) → is_markup byte ≡ false → Reads text bytes →
       Reads (byte ∷ text) (byte ∷ bytes)
+
+-- What stands in the data
+
+-- what stands for a byte in a string of JSON: `"`, `\` and the tab are escaped, and `<`, so that no tag begins there
+abbrev pub in_string : ℕ → List ℕ
+in_string byte =
+    if byte == 34 then codes "\\\"" else
+    if byte == 92 then codes "\\\\" else
+    if byte == 60 then codes "\\u003c" else
+    if byte == 9 then codes "\\t" else byte ∷ []
+
+-- bytes as they are shown, as a string of JSON
+unfoldable pub quoted : List ℕ → List ℕ
+quoted bytes = codes "\"" ++ flat_map in_string (shown bytes) ++ codes "\""
+
+-- whether a byte means something else than itself in a string of JSON, or might begin a tag
+abbrev pub is_special : ℕ → Bool
+is_special byte = byte == 34 || byte == 92 || byte == 60 || byte == 9
+
+-- JSON reads this text, between quotes, as these bytes: an escape as what it stands for, and any other byte as itself
+pub data ReadsString : List ℕ → List ℕ → Type 0 where
+  end_string : ReadsString [] []
+  quote : (text bytes : List ℕ) → ReadsString text bytes → ReadsString (codes "\\\"" ++ text) (34 ∷ bytes)
+  backslash : (text bytes : List ℕ) → ReadsString text bytes → ReadsString (codes "\\\\" ++ text) (92 ∷ bytes)
+  less_than : (text bytes : List ℕ) → ReadsString text bytes → ReadsString (codes "\\u003c" ++ text) (60 ∷ bytes)
+  tab : (text bytes : List ℕ) → ReadsString text bytes → ReadsString (codes "\\t" ++ text) (9 ∷ bytes)
+  itself : (byte : ℕ) (text bytes : List ℕ) → is_special byte ≡ false → ReadsString text bytes →
+      ReadsString (byte ∷ text) (byte ∷ bytes)

@@ -1,3 +1,5 @@
+pub mod Data
+pub mod Grouping
 pub mod Html
 pub mod Lists
 pub mod Pages

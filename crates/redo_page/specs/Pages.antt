@@ -1,7 +1,7 @@
 -- What a page of a report has, piece by piece.
-use Rattle.std.specs.Prelude.{ℕ, ◌+◌, ◌-◌, Bool, true, false, ◌==◌, List, [], ◌∷◌, ◌++◌, Option, Some, None}
-use Rattle.std.specs.Prelude.{bytes_eq, drop, flat_map}
-use Rattle.std.specs.Prelude.{if◌then◌else◌, is_some, length, map, slice_get, take}
+use Rattle.std.specs.Prelude.{ℕ, ◌+◌, ◌-◌, ◌/◌, ◌%◌, Bool, true, false, ◌==◌, List, [], ◌∷◌, ◌++◌, Option, Some, None}
+use Rattle.std.specs.Prelude.{bytes_eq, drop, filter, flat_map}
+use Rattle.std.specs.Prelude.{if◌then◌else◌, is_some, length, map, nat_lt, option_copied, slice_get, take}
 use Rattle.std.specs.Arc.{arc_value}
 use Rattle.std.specs.List.{count_by}
 use Rattle.std.specs.Map.{lookup}
@@ -17,14 +17,19 @@ use Rattle.redo_report.specs.declared.report.Row.{Row}
 use Rattle.redo_diagnose.specs.declared.diagnosis.Diagnosis.{Diagnosis}
 use Rattle.redo_diagnose.specs.declared.diagnosis.Place.{Place}
 use Rattle.redo_rings.specs.declared.ring.Ring.{Ring}
+use Rattle.redo_tree.specs.Tree.{Tree}
 use Rattle.redo_notes.specs.Texts.{ruleless_line, unbuilt_line, unmade_line}
 use Rattle.redo_notes.specs.declared.kinds.Notes.{Notes}
-use Rattle.redo_page.specs.Parts.{Piece, Fixed, Number, Text, a_tag, a_word, of_failure, of_note, of_ring, of_row, of_sum}
-use Rattle.redo_page.specs.Parts.{word_bytes}
+use Rattle.redo_told.specs.Blocked.{is_blocked}
+use Rattle.redo_told.specs.Rows.{is_changed}
+use Rattle.redo_told.specs.declared.run.RunInfo.{RunInfo}
+use Rattle.redo_page.specs.Parts.{Piece, Fixed, Number, Text, a_shown, a_tag, a_word, of_failure, of_note, of_ring}
+use Rattle.redo_page.specs.Parts.{of_row, of_run, of_sum, word_bytes}
 use Rattle.redo_page.specs.declared.parts.Part.TheVariants as parts
 use Rattle.redo_page.specs.declared.parts.Word.{Word}
 use Rattle.redo_page.specs.declared.parts.Word.TheVariants as words
 use Rattle.redo_page.specs.declared.parts.Tag.TheVariants as tags
+use Rattle.redo_page.specs.declared.parts.RunPart.TheVariants as run_parts
 use Rattle.redo_page.specs.declared.parts.SumPart.TheVariants as sum_parts
 use Rattle.redo_page.specs.declared.parts.FailurePart.TheVariants as failure_parts
 use Rattle.redo_page.specs.declared.parts.RingPart.TheVariants as ring_parts
@@ -34,13 +39,14 @@ use Rattle.redo_page.specs.declared.whole.Told.{Told}
 
 -- What the rows are known by
 
--- the number of the row with a path, the numbers of the rows that need a row, which targets have a diagnosis, and why
--- scripts were begun
+-- the number of the row with a path, the numbers of the rows that need a row, which targets have a diagnosis, why scripts
+-- were begun, and which targets were built with other bytes than before
 pub record Known : Type 0 where
   pub row_of : List ℕ → Option ℕ
   pub users : ℕ → List ℕ
   pub is_told : List ℕ → Bool
   pub why : List ℕ → Option (List ℕ)
+  pub is_changed : List ℕ → Bool
 
 -- each row's path with its number
 abbrev pub numbered : ℕ → List Row → List (List ℕ × ℕ)
@@ -76,6 +82,10 @@ users_from found m n (row ∷ rows) =
 abbrev pub users_of : List Row → ℕ → List ℕ
 users_of rows m = users_from (row_of rows) m 0 rows
 
+-- the paths of the rows whose targets were built with other bytes than this tree has
+abbrev pub changed_in : Tree → List Row → List (List ℕ)
+changed_in before rows = map (λ row. row.path) (filter (is_changed before) rows)
+
 -- Links
 
 -- a link to the row with this number
@@ -89,16 +99,25 @@ path_pieces (Some n) path = link_pieces n path
 
 -- The summary
 
--- the word for what became of a path, by whether its script was begun: a target that was built and not begun was kept
-abbrev pub outcome_word : Outcome → Bool → Word
-outcome_word outcomes.Source begun = words.Source
-outcome_word (outcomes.Built file) true = words.Built
-outcome_word (outcomes.Built file) false = words.Kept
-outcome_word (outcomes.Failed why) begun = words.Failed
-outcome_word outcomes.Cyclic begun = words.Cyclic
+-- the word for a target that was built, by whether its script was begun and has made something else than before: one
+-- that wasn't begun was kept
+abbrev pub built_word : Bool → Bool → Word
+built_word true true = words.Built
+built_word true false = words.Same
+built_word false changed = words.Kept
+
+-- the word for what became of a path, by whether its script was begun and its bytes are others than before. Of a target
+-- without a file nothing is said to be the same.
+abbrev pub outcome_word : Outcome → Bool → Bool → Word
+outcome_word outcomes.Source begun changed = words.Source
+outcome_word (outcomes.Built None) begun changed = built_word begun true
+outcome_word (outcomes.Built (Some bytes)) begun changed = built_word begun changed
+outcome_word (outcomes.Failed why) begun changed =
+    if is_blocked (outcomes.Failed why) then words.Blocked else words.Failed
+outcome_word outcomes.Cyclic begun changed = words.Cyclic
 
 abbrev pub row_word : Known → Row → Word
-row_word known row = outcome_word row.outcome (is_some (known.why row.path))
+row_word known row = outcome_word row.outcome (is_some (known.why row.path)) (known.is_changed row.path)
 
 -- whether this is the word for what became of a row
 abbrev pub has_word : Known → Word → Row → Bool
@@ -114,21 +133,70 @@ class_of it count = if count == 0 then words.Nothing else it
 
 abbrev pub count_pieces : Word → ℕ → List Piece
 count_pieces it count =
-    of_sum sum_parts.Line ∷ a_word (class_of it count) ∷ of_sum sum_parts.Name ∷ a_word it
+    of_sum sum_parts.Line ∷ a_word (class_of it count) ∷ of_sum sum_parts.Name ∷ a_shown it
     ∷ of_sum sum_parts.Count ∷ Number count ∷ of_sum sum_parts.LineEnd ∷ []
+
+-- how many rows have each of the words for targets
+abbrev pub wrong_pieces : Known → List Row → List Piece
+wrong_pieces known rows =
+    count_pieces words.Failed (count_of known rows words.Failed)
+    ++ count_pieces words.Blocked (count_of known rows words.Blocked)
+    ++ count_pieces words.Cyclic (count_of known rows words.Cyclic)
+
+abbrev pub good_pieces : Known → List Row → List Piece
+good_pieces known rows =
+    count_pieces words.Built (count_of known rows words.Built)
+    ++ count_pieces words.Same (count_of known rows words.Same)
+    ++ count_pieces words.Kept (count_of known rows words.Kept)
 
 abbrev pub counts_pieces : Known → List Row → List Piece
 counts_pieces known rows =
-    count_pieces words.Built (count_of known rows words.Built)
-    ++ count_pieces words.Kept (count_of known rows words.Kept)
-    ++ count_pieces words.Failed (count_of known rows words.Failed)
-    ++ count_pieces words.Cyclic (count_of known rows words.Cyclic)
+    wrong_pieces known rows ++ good_pieces known rows
+    ++ count_pieces words.Source (count_of known rows words.Source)
 
-unfoldable pub summary_pieces : Known → ℕ → List Row → List Piece
-summary_pieces known status rows =
-    (of_sum sum_parts.Begin ∷ Number status ∷ of_sum sum_parts.LineEnd ∷ []) ++ counts_pieces known rows
-    ++ of_sum sum_parts.Sources ∷ Number (count_of known rows words.Source) ∷ of_sum sum_parts.LineEnd
-    ∷ of_sum sum_parts.End ∷ []
+unfoldable pub summary_pieces : Known → List Row → List Piece
+summary_pieces known rows =
+    (of_sum sum_parts.Begin ∷ []) ++ counts_pieces known rows ++ of_sum sum_parts.End ∷ []
+
+-- The run
+
+abbrev pub requested_pieces : List ℕ → List Piece
+requested_pieces path = of_run run_parts.Path ∷ Text path ∷ of_run run_parts.PathEnd ∷ []
+
+abbrev pub directory_pieces : Option (List ℕ) → List Piece
+directory_pieces None = []
+directory_pieces (Some dir) = of_run run_parts.Directory ∷ Text dir ∷ of_run run_parts.DirectoryEnd ∷ []
+
+abbrev pub began_pieces : Option (List ℕ) → List Piece
+began_pieces None = []
+began_pieces (Some time) = of_run run_parts.Began ∷ Text time ∷ []
+
+-- hundredths of a second, of which there are less than 100, as two digits
+abbrev pub hundredths_pieces : ℕ → List Piece
+hundredths_pieces n = (if nat_lt n 10 then of_run run_parts.Zero ∷ [] else []) ++ Number n ∷ of_run run_parts.Seconds ∷ []
+
+-- milliseconds as seconds and hundredths
+abbrev pub took_pieces : Option ℕ → List Piece
+took_pieces None = []
+took_pieces (Some ms) =
+    (of_run run_parts.Took ∷ Number (ms / 1000) ∷ of_run run_parts.Point ∷ []) ++ hundredths_pieces (ms % 1000 / 10)
+
+-- what was requested, where, and by how many jobs
+abbrev pub asked_pieces : RunInfo → List Piece
+asked_pieces run =
+    (of_run run_parts.Requested ∷ []) ++ flat_map requested_pieces run.request.now
+    ++ directory_pieces (option_copied run.directory) ++ of_run run_parts.Jobs ∷ Number run.jobs ∷ []
+
+-- when, how long, and by which program
+abbrev pub time_pieces : RunInfo → List Piece
+time_pieces run =
+    began_pieces (option_copied run.began) ++ took_pieces run.milliseconds
+    ++ of_run run_parts.Version ∷ Text run.version.now ∷ []
+
+-- the exit status, and what is told of the run
+unfoldable pub run_pieces : ℕ → RunInfo → List Piece
+run_pieces status run =
+    (of_run run_parts.Begin ∷ Number status ∷ []) ++ asked_pieces run ++ time_pieces run ++ of_run run_parts.End ∷ []
 
 -- Failures
 
@@ -288,7 +356,7 @@ front_pieces known n row =
 -- what became of a row, and why, if it failed
 abbrev pub outcome_pieces : Known → ℕ → Row → List Piece
 outcome_pieces known n row =
-    (of_row row_parts.Outcome ∷ a_word (row_word known row) ∷ [])
+    (of_row row_parts.Outcome ∷ a_shown (row_word known row) ∷ [])
     ++ failed_pieces (known.is_told row.path) n row.outcome
 
 -- a row's last cells
@@ -308,16 +376,28 @@ abbrev pub rows_pieces : Known → List Row → ℕ → List Row → List Piece
 rows_pieces known all n [] = []
 rows_pieces known all n (row ∷ rows) = row_pieces known all n row ++ rows_pieces known all (n + 1) rows
 
+-- how many rows a page shows without its script
+abbrev pub most_rows : ℕ
+most_rows = 500
+
 -- The page
 
+-- what each page begins with
+unfoldable pub begin_pieces : List Piece
+begin_pieces = Fixed parts.Head ∷ Fixed parts.Style ∷ a_tag tags.Top ∷ []
+
 -- what comes before the table
-abbrev pub top_pieces : Known → Told → List Row → List Piece
+unfoldable pub top_pieces : Known → Told → List Row → List Piece
 top_pieces known told rows =
-    (Fixed parts.Head ∷ []) ++ summary_pieces known told.status rows ++ failures_pieces known told.diagnoses.now
-    ++ rings_pieces known told.rings.now ++ notes_pieces told.notes.now
+    begin_pieces ++ run_pieces told.status told.run.now ++ summary_pieces known rows
+    ++ failures_pieces known told.diagnoses.now ++ rings_pieces known told.rings.now
 
-abbrev pub table_pieces : Known → List Row → List Piece
-table_pieces known rows = (Fixed parts.Middle ∷ []) ++ rows_pieces known rows 0 rows ++ Fixed parts.Tail ∷ []
+-- the first rows, the frame of the graph, and the notes
+unfoldable pub table_pieces : Known → Told → List Row → List Piece
+table_pieces known told rows =
+    (Fixed parts.Middle ∷ []) ++ rows_pieces known rows 0 (take most_rows rows)
+    ++ (Fixed parts.Frame ∷ []) ++ notes_pieces told.notes.now
 
-abbrev pub page_pieces : Known → Told → List Row → List Piece
-page_pieces known told rows = top_pieces known told rows ++ table_pieces known rows
+-- what is shown without the script
+unfoldable pub shown_pieces : Known → Told → List Row → List Piece
+shown_pieces known told rows = top_pieces known told rows ++ table_pieces known told rows

@@ -1,2 +1,5 @@
+pub mod Forms
+pub mod Grouping
 pub mod Links
+pub mod Named
 pub mod Whys

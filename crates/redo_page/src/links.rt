@@ -1,11 +1,12 @@
 //! Which row has a path, which rows need it, and what else is known of it.
 
-ghost use Rattle.std.specs.Prelude.{◌≡◌, ◌<◌, ◌==◌, ◌++◌, ◌∷◌, [], IfOk, List, OnOk, bytes_eq};
+ghost use Rattle.std.specs.Prelude.{◌≡◌, ◌<◌, ◌==◌, ◌&&◌, ◌||◌, ◌++◌, ◌∷◌, [], IfOk, List, OnOk, bytes_eq};
 ghost use Rattle.std.specs.Prelude.{flat_map, if◌then◌else◌, is_some, length, option_copied, ℕ};
 ghost use Rattle.std.specs.Map.{lookup};
 ghost use Rattle.redo_names.specs.Paths.{is_among};
 ghost use Rattle.redo_page.specs.Pages.{entry_users, is_number, is_of, link_pieces, path_pieces, row_of as row_in};
-ghost use Rattle.redo_page.specs.Pages.{users_from, users_of as users_in};
+ghost use Rattle.redo_told.specs.Rows.{is_changed as has_changed};
+ghost use Rattle.redo_page.specs.Pages.{changed_in, users_from, users_of as users_in};
 ghost use Rattle.redo_page.specs.Parts.{text_of};
 ghost use Rattle.redo_page.specs.inside.Links.{known_by, number_in, targets_of as targets_in, users_at};
 
@@ -17,6 +18,8 @@ use redo_names::{PathMap, PathSet};
 use redo_path::Path;
 use redo_record::{Dep, DepKind};
 use redo_report::Row;
+use redo_told::is_changed;
+use redo_tree::Tree;
 use std::alloc::{AllocError, Global};
 
 /// The number of each row, from 0, by its path.
@@ -35,12 +38,15 @@ pub(crate) struct Links<'a> {
     users: Users,
     /// The targets that have a diagnosis.
     diagnosed: PathSet,
+    /// The targets that were built with other bytes than before.
+    changed: PathSet,
 }
 
 impl<'a> Links<'a> {
     /// The links of these rows, with their diagnoses and reasons.
     pub(crate) fn of(
         alloc: Global,
+        before: &Tree,
         rows: &[Row],
         diagnoses: &[Diagnosis],
         whys: &'a Whys,
@@ -51,15 +57,19 @@ impl<'a> Links<'a> {
             users_at links.users.items m ≡ users_in rows.now m) }
         ensures diagnosed { IfOk result (λ links. (p : List ℕ) →
             is_among links.diagnosed p ≡ is_among (targets_in diagnoses.now) p) }
+        ensures changed { IfOk result (λ links. (p : List ℕ) →
+            is_among links.changed p ≡ is_among (changed_in before.now rows.now) p) }
     {
         let numbers = numbers_of(alloc, rows)?;
         let users = users_of(alloc, rows, &numbers)?;
         let diagnosed = targets_of(alloc, diagnoses)?;
+        let changed = changed_of(alloc, before, rows)?;
         Ok(Links {
             whys,
             numbers,
             users,
             diagnosed,
+            changed,
         })
     }
 
@@ -87,6 +97,13 @@ impl<'a> Links<'a> {
         self.diagnosed.contains(path)
     }
 
+    /// Whether a target was built with other bytes than before.
+    pub(crate) fn is_changed(&self, path: &Path) -> bool
+        ensures { result ≡ (known_by self.now).is_changed path.now }
+    {
+        self.changed.contains(path)
+    }
+
     /// Whether a target's script was begun.
     pub(crate) fn is_begun(&self, path: &Path) -> bool
         ensures { result ≡ is_some ((known_by self.now).why path.now) }
@@ -112,6 +129,28 @@ fn targets_of(alloc: Global, diagnoses: &[Diagnosis]) -> Result<PathSet, AllocEr
     let mut set = PathSet::with_capacity(alloc, diagnoses.len())?;
     for diagnosis in diagnoses {
         set.insert(diagnosis.target.clone()?)?;
+    }
+    Ok(set)
+}
+
+/// Adds a row's target, if it was built with other bytes than the tree had before.
+fn add_changed(set: &mut PathSet, before: &Tree, row: &Row) -> Result<(), AllocError>
+    ensures { OnOk result ((p : List ℕ) → is_among set.new p ≡
+        (is_among set.old p || (has_changed before.now row.now && bytes_eq row.now.path p))) }
+{
+    if is_changed(before, row) {
+        set.insert(row.path.clone()?)?;
+    }
+    Ok(())
+}
+
+/// The targets that were built with other bytes than the tree had before.
+fn changed_of(alloc: Global, before: &Tree, rows: &[Row]) -> Result<PathSet, AllocError>
+    ensures { IfOk result (λ set. (p : List ℕ) → is_among set p ≡ is_among (changed_in before.now rows.now) p) }
+{
+    let mut set = PathSet::new(alloc);
+    for row in rows {
+        add_changed(&mut set, before, row)?;
     }
     Ok(set)
 }

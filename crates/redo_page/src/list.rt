@@ -2,10 +2,11 @@
 
 ghost use Rattle.std.specs.Prelude.{◌≡◌, ◌++◌, IfOk, List, OnOk, flat_map, ℕ};
 ghost use Rattle.redo_page.specs.Html.{Reads, escaped, shown};
-ghost use Rattle.redo_page.specs.Lists.{list_pieces, listed_pieces};
+ghost use Rattle.redo_page.specs.Lists.{heading_pieces, list_pieces, listed_pieces};
 ghost use Rattle.redo_page.specs.Parts.{text_of};
 
 use crate::parts::{ListPart, Part, Tag};
+use crate::whole::push_begin;
 use crate::writer::Writer;
 use redo_list::Listed;
 use std::alloc::{AllocError, Global};
@@ -33,17 +34,25 @@ fn push_all(out: &mut Writer, targets: &[Listed]) -> Result<(), AllocError>
     Ok(())
 }
 
+/// Adds the exit status, how many targets there are, and the head of their table.
+#[tactic(auto, unfolding(crate::specs::Lists::heading_pieces))]
+fn push_heading(out: &mut Writer, status: u8, count: usize) -> Result<(), AllocError>
+    ensures { OnOk result (out.new ≡ out.old ++ text_of (heading_pieces status count)) }
+{
+    out.fixed(Part::List(ListPart::Begin))?;
+    out.number(u64::from(status))?;
+    out.fixed(Part::List(ListPart::Count))?;
+    out.number(count as u64)?;
+    out.fixed(Part::List(ListPart::Table))?;
+    out.fixed(Part::List(ListPart::Heads))
+}
+
 /// Adds the page.
 fn push_list(out: &mut Writer, targets: &[Listed], status: u8) -> Result<(), AllocError>
     ensures { OnOk result (out.new ≡ out.old ++ text_of (list_pieces status targets.now)) }
 {
-    out.fixed(Part::Head)?;
-    out.fixed(Part::List(ListPart::Begin))?;
-    out.number(u64::from(status))?;
-    out.fixed(Part::List(ListPart::Count))?;
-    out.number(targets.len() as u64)?;
-    out.fixed(Part::List(ListPart::Table))?;
-    out.fixed(Part::List(ListPart::Heads))?;
+    push_begin(out)?;
+    push_heading(out, status, targets.len())?;
     push_all(out, targets)?;
     out.fixed(Part::List(ListPart::End))
 }

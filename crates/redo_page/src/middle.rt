@@ -1,19 +1,35 @@
-//! What stands before the rows of a page.
+//! What stands around the rows of a page.
 
+/// What stands before the rows.
 pub(crate) const MIDDLE: &[u8] = br##"<section id="targets"><h2>Targets</h2>
-<details id="graph" open hidden><summary>Graph</summary>
-<figure><figcaption>Each target stands left of what it needs.
-Dashed lines: what has to stay missing.</figcaption></figure>
-</details>
 <form role="search" hidden>
-<label>Filter <input name="word" type="search" autocomplete="off" spellcheck="false"></label>
+<label>Search <input name="word" type="search" autocomplete="off" spellcheck="false"></label>
 <label><input name="deep" type="checkbox"> in records too</label>
-<label>Outcome <select name="outcome">
-<option value="">any<option>failed<option>cyclic<option>built<option>kept<option>source</select></label>
-<button type="button">Unfold all</button>
+<div class="words" role="group" aria-label="Outcomes"></div>
 </form>
-<p><output></output> <button type="button" id="more" hidden>Show all</button></p>
+<p><output></output> <button type="button" id="only" hidden></button></p>
+<div id="scroll" role="region" aria-label="Table of targets" tabindex="0">
 <table>
 <thead><tr><th scope="col">Path<th scope="col">Outcome<th scope="col">Bytes<th scope="col">Why begun
 <tbody>
+"##;
+
+/// What stands behind the rows: the frame of the graph.
+pub(crate) const FRAME: &[u8] = br##"</table>
+</div>
+</section>
+<section id="graph" hidden><h2>Graph</h2>
+<p class="hint">Each box stands left of what it needs. Click one to see what it needs and what needs it, two steps far,
+and its rows in the table; <b>+</b> opens a box of many. Drag to move, Ctrl and the wheel to zoom. With keys: arrows,
+<kbd>Enter</kbd> picks, <kbd>o</kbd> opens, <kbd>c</kbd> closes, <kbd>+</kbd> <kbd>-</kbd> <kbd>0</kbd> zoom.</p>
+<div class="tools">
+<button type="button" name="in" aria-label="Zoom in">+</button>
+<button type="button" name="out" aria-label="Zoom out">&minus;</button>
+<button type="button" name="fit">Fit</button>
+<button type="button" name="back">Start over</button>
+<output></output>
+</div>
+<figure></figure>
+<div class="told"></div>
+</section>
 "##;

@@ -1,30 +1,43 @@
 //! Fixed parts of a page.
 
 ghost use Rattle.std.specs.Prelude.{◌≡◌};
-ghost use Rattle.redo_page.specs.Parts.{failure_bytes, list_bytes, note_bytes, part_bytes, ring_bytes, row_bytes};
-ghost use Rattle.redo_page.specs.Parts.{sum_bytes, tag_bytes, word_bytes};
+ghost use Rattle.redo_page.specs.Parts.{data_bytes, failure_bytes, list_bytes, note_bytes, part_bytes, ring_bytes};
+ghost use Rattle.redo_page.specs.Parts.{number_of_word, row_bytes, run_bytes, shown_bytes, sum_bytes, tag_bytes};
+ghost use Rattle.redo_page.specs.Parts.{word_bytes};
 
+use crate::graph::GRAPH;
 use crate::head::HEAD;
-use crate::middle::MIDDLE;
-use crate::tail::TAIL;
+use crate::middle::{FRAME, MIDDLE};
+use crate::script::SCRIPT;
+use crate::style::STYLE;
 use redo_list::State;
 
 /// Bytes that are the same on each page where they stand.
 #[derive(Clone, Copy)]
 pub(crate) enum Part {
-    /// What each page begins with: its policy and its style.
+    /// What each page begins with: its policy, up to its style.
     Head,
+    Style,
     /// What comes before the rows.
     Middle,
-    /// What comes after the rows: the script.
-    Tail,
+    /// What comes after the rows: the frame of the graph.
+    Frame,
+    /// The script that draws graphs.
+    Graph,
+    /// The script of the page.
+    Script,
+    /// The class of an outcome.
     Word(Word),
+    /// An outcome as it is shown.
+    Shown(Word),
     Tag(Tag),
+    Run(RunPart),
     Sum(SumPart),
     Failure(FailurePart),
     Ring(RingPart),
     Note(NotePart),
     Row(RowPart),
+    Data(DataPart),
     List(ListPart),
     State(State),
 }
@@ -35,15 +48,21 @@ impl Part {
     {
         match self {
             Part::Head => HEAD,
+            Part::Style => STYLE,
             Part::Middle => MIDDLE,
-            Part::Tail => TAIL,
+            Part::Frame => FRAME,
+            Part::Graph => GRAPH,
+            Part::Script => SCRIPT,
             Part::Word(word) => word.bytes(),
+            Part::Shown(word) => word.shown(),
             Part::Tag(tag) => tag.bytes(),
+            Part::Run(part) => part.bytes(),
             Part::Sum(part) => part.bytes(),
             Part::Failure(part) => part.bytes(),
             Part::Ring(part) => part.bytes(),
             Part::Note(part) => part.bytes(),
             Part::Row(part) => part.bytes(),
+            Part::Data(part) => part.bytes(),
             Part::List(part) => part.bytes(),
             Part::State(state) => state.word().as_bytes(),
         }
@@ -53,9 +72,14 @@ impl Part {
 /// What became of a target, or the class of what isn't there.
 #[derive(Clone, Copy)]
 pub(crate) enum Word {
+    /// Built, with other bytes than before.
     Built,
+    /// Built, with the same bytes as before.
+    Same,
     Kept,
     Failed,
+    /// Failed because something that it needs did.
+    Blocked,
     Cyclic,
     Source,
     Nothing,
@@ -67,11 +91,38 @@ impl Word {
     {
         match self {
             Word::Built => b"built",
+            Word::Same => b"same",
             Word::Kept => b"kept",
             Word::Failed => b"failed",
+            Word::Blocked => b"blocked",
             Word::Cyclic => b"cyclic",
             Word::Source => b"source",
             Word::Nothing => b"none",
+        }
+    }
+
+    /// The words that are shown.
+    fn shown(self) -> &'static [u8]
+        ensures { result.now ≡ shown_bytes self }
+    {
+        match self {
+            Word::Same => b"built the same",
+            word => word.bytes(),
+        }
+    }
+
+    /// The number that stands for it in the data.
+    pub(crate) fn number(self) -> u64
+        ensures { result ≡ number_of_word self }
+    {
+        match self {
+            Word::Built => 0,
+            Word::Same => 1,
+            Word::Kept => 2,
+            Word::Failed => 3,
+            Word::Blocked => 4,
+            Word::Cyclic => 5,
+            Word::Source | Word::Nothing => 6,
         }
     }
 }
@@ -89,6 +140,8 @@ pub(crate) enum Tag {
     Cell,
     Blank,
     LineEnd,
+    /// From the end of the style up to the heading.
+    Top,
 }
 
 impl Tag {
@@ -105,6 +158,52 @@ impl Tag {
             Tag::Cell => b"<td>",
             Tag::Blank => b" ",
             Tag::LineEnd => b"\n",
+            Tag::Top => b"</style>\n<main>\n<header>\n<h1>",
+        }
+    }
+}
+
+/// Parts of the line that tells of the run.
+#[derive(Clone, Copy)]
+pub(crate) enum RunPart {
+    /// The heading, up to the exit status.
+    Begin,
+    Requested,
+    Path,
+    PathEnd,
+    Directory,
+    DirectoryEnd,
+    Jobs,
+    Began,
+    Took,
+    /// Between seconds and hundredths of them.
+    Point,
+    /// Before hundredths that are less than 10.
+    Zero,
+    Seconds,
+    Version,
+    End,
+}
+
+impl RunPart {
+    fn bytes(self) -> &'static [u8]
+        ensures { result.now ≡ run_bytes self }
+    {
+        match self {
+            RunPart::Begin => b"redo report</h1>\n<p class=\"run\"><span>exit status ",
+            RunPart::Requested => b"</span> <span class=\"request\">requested: ",
+            RunPart::Path => b"<bdi>",
+            RunPart::PathEnd => b"</bdi> ",
+            RunPart::Directory => b"</span> <span>in <bdi>",
+            RunPart::DirectoryEnd => b"</bdi>",
+            RunPart::Jobs => b"</span> <span>jobs: ",
+            RunPart::Began => b"</span> <span>began ",
+            RunPart::Took => b"</span> <span>took ",
+            RunPart::Point => b".",
+            RunPart::Zero => b"0",
+            RunPart::Seconds => b" s",
+            RunPart::Version => b"</span> <span>redo ",
+            RunPart::End => b"</span></p>\n",
         }
     }
 }
@@ -112,15 +211,12 @@ impl Tag {
 /// Parts of the summary.
 #[derive(Clone, Copy)]
 pub(crate) enum SumPart {
-    /// Up to the exit status.
     Begin,
     /// A line, up to its class.
     Line,
     Name,
     Count,
     LineEnd,
-    /// The line of the requested sources, up to their count.
-    Sources,
     End,
 }
 
@@ -129,13 +225,13 @@ impl SumPart {
         ensures { result.now ≡ sum_bytes self }
     {
         match self {
-            SumPart::Begin => b"<dl class=\"sum\">\n<div><dt>exit status<dd>",
+            SumPart::Begin => b"<dl class=\"sum\">\n",
             SumPart::Line => b"<div class=\"",
             SumPart::Name => b"\"><dt>",
             SumPart::Count => b"<dd>",
             SumPart::LineEnd => b"</div>\n",
-            SumPart::Sources => b"<div class=\"none\"><dt>requested sources<dd>",
-            SumPart::End => b"</dl>\n<p class=\"go\"><a href=\"#targets\">To the targets</a></p>\n",
+            SumPart::End =>
+                b"</dl>\n<p class=\"go\"><a href=\"#targets\">To the targets</a> <a href=\"#graph\" hidden>To the graph</a></p>\n</header>\n",
         }
     }
 }
@@ -200,10 +296,10 @@ impl RingPart {
         ensures { result.now ≡ ring_bytes self }
     {
         match self {
-            RingPart::Begin => b"<section id=\"rings\"><h2>Rings</h2>\n",
+            RingPart::Begin => b"<section id=\"rings\"><h2>Cycles</h2>\n",
             RingPart::Ring => b"<ol class=\"ring\">\n",
             RingPart::Member => b"<li>",
-            RingPart::Waiting => b"</ol>\n<p>Not in the ring, but waiting for it: ",
+            RingPart::Waiting => b"</ol>\n<p>Not in the cycle, but waiting for it: ",
         }
     }
 }
@@ -265,10 +361,54 @@ impl RowPart {
     }
 }
 
+/// Parts of the data, which is one object of JSON.
+#[derive(Clone, Copy)]
+pub(crate) enum DataPart {
+    /// What comes before the data: the end of what is shown.
+    Begin,
+    /// Up to how many rows there are.
+    Count,
+    Requested,
+    Paths,
+    Rows,
+    End,
+    /// The end of what the script has, up to the script that draws graphs.
+    Scripts,
+    NextScript,
+    LastScript,
+    Comma,
+    Open,
+    Close,
+    /// Where a target has no file.
+    Null,
+}
+
+impl DataPart {
+    fn bytes(self) -> &'static [u8]
+        ensures { result.now ≡ data_bytes self }
+    {
+        match self {
+            DataPart::Begin => b"</main>\n<script type=\"application/json\" id=\"report\">",
+            DataPart::Count => b"{\"count\":",
+            DataPart::Requested => b",\"requested\":[",
+            DataPart::Paths => b"],\"paths\":[",
+            DataPart::Rows => b"],\"rows\":[",
+            DataPart::End => b"]}",
+            DataPart::Scripts => b"</script>\n<script>",
+            DataPart::NextScript => b"</script>\n<script>",
+            DataPart::LastScript => b"</script>\n",
+            DataPart::Comma => b",",
+            DataPart::Open => b"[",
+            DataPart::Close => b"]",
+            DataPart::Null => b"null",
+        }
+    }
+}
+
 /// Parts of the page of a list.
 #[derive(Clone, Copy)]
 pub(crate) enum ListPart {
-    /// Up to the exit status.
+    /// The heading, up to the exit status.
     Begin,
     /// Up to how many targets are listed.
     Count,
@@ -285,13 +425,14 @@ impl ListPart {
         ensures { result.now ≡ list_bytes self }
     {
         match self {
-            ListPart::Begin => b"<h2>Out of date</h2>\n<dl class=\"sum\">\n<div><dt>status<dd>",
+            ListPart::Begin => b"Out of date</h1>\n<dl class=\"sum\">\n<div><dt>exit status<dd>",
             ListPart::Count => b"</div>\n<div><dt>targets<dd>",
-            ListPart::Table => b"</div>\n</dl>\n<table>\n<thead><tr><th scope=\"col\">Path",
+            ListPart::Table =>
+                b"</div>\n</dl>\n</header>\n<section id=\"targets\">\n<table class=\"list\">\n<thead><tr><th scope=\"col\">Path",
             ListPart::Heads => b"<th scope=\"col\">State<th scope=\"col\">Why\n<tbody>\n",
             ListPart::Row => b"<tr><th scope=\"row\"><bdi>",
             ListPart::State => b"</bdi><td>",
-            ListPart::End => b"</table>\n</main>\n",
+            ListPart::End => b"</table>\n</section>\n</main>\n",
         }
     }
 }

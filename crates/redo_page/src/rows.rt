@@ -194,7 +194,7 @@ fn push_outcome(
     ensures { OnOk result (out.new ≡ out.old ++ text_of (outcome_pieces (known_by links.now) number row.now)) }
 {
     out.fixed(Part::Row(RowPart::Outcome))?;
-    out.fixed(Part::Word(row_word(links, row)))?;
+    out.fixed(Part::Shown(row_word(links, row)))?;
     push_failed(alloc, out, links.is_told(&row.path), number, &row.outcome)
 }
 
@@ -209,18 +209,19 @@ fn push_cells(out: &mut Writer, links: &Links<'_>, row: &Row) -> Result<(), Allo
     out.fixed(Part::Tag(Tag::LineEnd))
 }
 
-/// Adds rows.
+/// Adds the first ones of all rows.
 pub(crate) fn push_rows(
     alloc: Global,
     out: &mut Writer,
     links: &Links<'_>,
+    all: &[Row],
     rows: &[Row],
 ) -> Result<(), AllocError>
-    ensures { OnOk result (out.new ≡ out.old ++ text_of (rows_pieces (known_by links.now) rows.now 0 rows.now)) }
+    ensures { OnOk result (out.new ≡ out.old ++ text_of (rows_pieces (known_by links.now) all.now 0 rows.now)) }
 {
     for (number, row) in rows.iter().enumerate() {
         push_front(alloc, out, links, number, row)?;
-        push_users(out, rows, links.users(number))?;
+        push_users(out, all, links.users(number))?;
         push_outcome(alloc, out, links, number, row)?;
         push_cells(out, links, row)?;
     }

@@ -1,9 +1,9 @@
 //! A page that is being written.
 
 ghost use Rattle.std.specs.Prelude.{◌≡◌, ◌++◌, [], OnOk};
-ghost use Rattle.redo_page.specs.Parts.{Fixed, Number, Text, written};
+ghost use Rattle.redo_page.specs.Parts.{Fixed, Number, Quoted, Text, written};
 
-use crate::escape::push_escaped;
+use crate::escape::{Form, push_escaped};
 use crate::parts::Part;
 use itoa::Buffer;
 use std::alloc::{AllocError, Global};
@@ -59,10 +59,21 @@ impl Writer {
     }
 
     /// Adds a text, escaped.
-    #[tactic(auto, unfolding(crate::specs::Parts::written))]
+    #[tactic(auto, unfolding(crate::specs::Parts::written, crate::specs::Html::escaped))]
     pub(crate) fn text(&mut self, text: &[u8]) -> Result<(), AllocError>
         ensures { OnOk result (self.new ≡ self.old ++ written (Text text.now)) }
     {
-        push_escaped(&mut self.bytes, text)
+        push_escaped(&mut self.bytes, Form::Html, text)
+    }
+
+    /// Adds a text of the data, in quotes.
+    #[tactic(auto, unfolding(crate::specs::Parts::written, crate::specs::Html::quoted))]
+    pub(crate) fn quoted(&mut self, text: &[u8]) -> Result<(), AllocError>
+        ensures { OnOk result (self.new ≡ self.old ++ written (Quoted text.now)) }
+    {
+        self.bytes.push(b'"')?;
+        push_escaped(&mut self.bytes, Form::Json, text)?;
+        self.bytes.push(b'"')?;
+        Ok(())
     }
 }

@@ -3,7 +3,7 @@ use Rattle.std.proofs.Common.{◌≡◌, ◌≢◌, ℕ, zero, suc, true, false,
 use Rattle.std.proofs.Common.{Option, Some, None, refl, sym, ap, subst, ◌∙◌}
 use Rattle.std.proofs.lemmas.Bool.{cases_Bool}
 use Rattle.std.proofs.lemmas.Slice.Eq.{bytes_eq-Decides}
-use Rattle.std.specs.Prelude.{All, option_and_then, option_map}
+use Rattle.std.specs.Prelude.{All, option_and_then}
 use Rattle.std.specs.Str.{bytes_eq}
 use Rattle.redo_path.proofs.ApartLemmas.{apart}
 use Rattle.redo_names.specs.Paths.{is_among}
@@ -19,23 +19,20 @@ use Rattle.redo_rules.specs.Build.{GivenView}
 use Rattle.redo_rules.specs.Results.{IsResult}
 use Rattle.redo_rules.specs.TreeSources.{IsTrueOfTrees}
 use Rattle.redo_dir.specs.Own.{is_own}
+use Rattle.redo_mend.proofs.MendLemmas
 use Rattle.redo_mend.proofs.MendLemmas.{no-dir}
 use Rattle.redo_mend.proofs.OneLemmas.{OneBook}
 use Rattle.redo_mend.proofs.SaidLemmas.{all-recovered}
 use Rattle.redo_recover.specs.Broken.{BreakOff, BreaksOff, GoesOn, IsBrokenOff, IsStart}
 use Rattle.redo_recover.specs.Broken.{journal_of}
-use Rattle.redo_recover.proofs.SourceLemmas.{at-book, at-own, book-aside, left, none-cond, same-book, source-at, stored, unsourced}
+use Rattle.redo_recover.proofs.SourceLemmas.{at-book, at-own, book-aside, left, same-book, source-at, stored, unsourced}
+use Rattle.redo_recover.proofs.StepLemmas.{none-cond}
 
 -- ---- nodes and files
 
-node-file : (o : Option Node) → (o ≡ Some Directory → ⊥) → o ≡ option_map File (option_and_then bytes_of o)
-node-file None n = refl
-node-file (Some Directory) n = absurd (n refl)
-node-file (Some (File b)) n = refl
-
 -- where neither is a directory, the file tells all
 pub same-node : (o u : Option Node) → (o ≡ Some Directory → ⊥) → (u ≡ Some Directory → ⊥) → option_and_then bytes_of o ≡ option_and_then bytes_of u → o ≡ u
-same-node o u n m e = node-file o n ∙ ap (option_map File) e ∙ sym (node-file u m)
+same-node o u n m e = MendLemmas.same-node o u (λ d. absurd (n d), λ d. absurd (m d)) e
 
 pub either-dir : (o : Option Node) → (o ≡ Some Directory) ⊎ (o ≡ Some Directory → ⊥)
 either-dir None = inr (λ e. apart cc)

@@ -1,12 +1,11 @@
 -- Each tree whose book has no fault can be opened.
-use Rattle.std.proofs.Common.{◌≡◌, ◌≢◌, ◌⊎◌, ℕ, inl, inr, List, [], ◌∷◌, Option, Some, None, refl, sym, subst}
-use Rattle.std.specs.List.Sorted.{IsStrictlySortedBy}
+use Rattle.std.proofs.Common.{◌≡◌, ◌≢◌, ◌⊎◌, ℕ, inl, inr, List, [], ◌∷◌, Some, None, refl, sym, subst}
 use Rattle.redo_path.proofs.ApartLemmas.{apart}
 use Rattle.redo_tree.specs.Tree.{Directory, File, IsTree, Tree, file_at, node_at, refusal, with_node, without}
 use Rattle.redo_tree.proofs.GrowLemmas.{added-free}
 use Rattle.redo_tree.proofs.WithoutLemmas.{IsTree-without, file_at-without, stood}
 use Rattle.redo_which.specs.Candidates.{book_path, journal_path}
-use Rattle.redo_book.specs.Book.{IsBook, IsText, IsTextOrRefused, Record, book_lines, text_of}
+use Rattle.redo_book.specs.Book.{IsText, IsTextOrRefused, Record, book_lines, text_of}
 use Rattle.redo_past.specs.Past.{IsBookOf, PastView, set_aside}
 use Rattle.redo_mend.specs.Mended.{IsNoBook, IsRecoveredTree, MendsTo}
 use Rattle.redo_mend.proofs.MendLemmas.{is-mended, own_of}
@@ -14,14 +13,7 @@ use Rattle.redo_mend.proofs.OneLemmas.{NoFault}
 use Rattle.redo_mend.proofs.SaidLemmas.{is-recovered, recovered}
 use Rattle.redo_recover.specs.Opening.{Opens}
 use Rattle.redo_recover.proofs.BreakLemmas.{either-dir, same-node}
-
-empty : IsBook []
-unfolding IsStrictlySortedBy
-empty = record { records = tt; sorted = tt }
-
-ordered : (file : Option (List ℕ)) (book : List Record) → IsBookOf file book → IsBook book
-ordered None book h = subst IsBook (sym h) empty
-ordered (Some text) book h = h.ordered
+use Rattle.redo_recover.proofs.ClearLemmas.{ordered}
 
 -- a tree with a book has a past
 past-of : (tree mended : Tree) (book : List Record) → MendsTo tree mended → IsBookOf (file_at mended book_path) book → (past : PastView) × Opens tree past

@@ -1,7 +1,7 @@
 -- What is cleared away, step by step: each time the next run goes on with the same tree.
-use Rattle.std.proofs.Common.{◌≡◌, ◌≢◌, ◌↔◌, ◌++◌, ℕ, Bool, true, false, cond, not, ◌⊎◌, inl, inr, List, [], ◌∷◌, Option, Some, None}
+use Rattle.std.proofs.Common.{◌≡◌, ◌≢◌, ◌↔◌, ◌++◌, ℕ, Bool, true, false, cond, ◌⊎◌, inl, inr, List, [], ◌∷◌, Option, Some, None}
 use Rattle.std.proofs.Common.{filter, is_some, map, nat_eq, refl, rules, sym, ap, subst, ◌∙◌}
-use Rattle.std.proofs.lemmas.Bool.{cases_Bool}
+use Rattle.std.proofs.lemmas.Bool.{cases_Bool, false_from_ne_true, or_parts, or_right}
 use Rattle.std.proofs.lemmas.List.Elements.{All-contains}
 use Rattle.std.specs.Cmp.Lexicographic.{nat_list_eq_equiv, pointwise}
 use Rattle.std.specs.List.{AllByRecursion}
@@ -26,23 +26,13 @@ use Rattle.redo_mend.proofs.MendLemmas.{no-dir, same-node}
 use Rattle.redo_mend.proofs.OwnLemmas.{among-append, among-filter, book-other, file-among, journal-other}
 use Rattle.redo_recover.specs.Steps.{IsFound, IsOfOthers, MayHold, TellsOfOthers, after_steps, is_free, named_by}
 use Rattle.redo_recover.proofs.AgainLemmas.{again, recovered-same-files}
-use Rattle.redo_recover.proofs.StepLemmas.{Clears, after-append, cleared-at, cleared-named, puts_book, removed-at}
+use Rattle.redo_recover.proofs.StepLemmas.{Clears, after-append, cleared-at, cleared-named, puts_book, removed-at, taken-file}
 
 -- ---- parts of a test
-
-taken-file : (a b c : Bool) → (a && (not b && not c)) ≡ true → (a ≡ true) × ((b ≡ false) × (c ≡ false))
-taken-file true true c h = apart cc
-taken-file true false true h = apart cc
-taken-file true false false h = (refl, (refl, refl))
-taken-file false b c h = apart cc
 
 some-file : (o : Option (List ℕ)) → is_some o ≡ true → (x : List ℕ) × (o ≡ Some x)
 some-file None h = apart cc
 some-file (Some x) h = (x, refl)
-
-none-file : (o : Option (List ℕ)) → is_some o ≡ false → o ≡ None
-none-file None h = refl
-none-file (Some x) h = apart cc
 
 file-node : (o : Option Node) (x : List ℕ) → option_and_then bytes_of o ≡ Some x → o ≡ Some (File x)
 file-node None x h = apart cc
@@ -72,6 +62,10 @@ put-same new old x some h = elim (cases_Bool (option_eq (pointwise nat_eq) new o
 no-records : IsBook []
 unfolding IsStrictlySortedBy
 no-records = record { records = tt; sorted = tt }
+
+pub ordered : (file : Option (List ℕ)) (book : List Record) → IsBookOf file book → IsBook book
+ordered None book h = subst IsBook (sym h) no-records
+ordered (Some text) book h = h.ordered
 
 none-told : (text : List ℕ) → TellsOfOthers text []
 none-told text = search rules
@@ -132,14 +126,7 @@ module _ (tree mended : Tree) (text : List ℕ) (is : IsTree tree) (file : file_
             ap (λ x. is_temporary x p) is_text ∙ h
 
     other-temporary : (p : List ℕ) → is_own text p ≡ false → is_temporary text p ≡ false
-    other-temporary p h = behind (bytes_eq p journal_path) (is_temporary text p) h
-      where
-        behind : (a b : Bool) → (a || b) ≡ false → b ≡ false
-        behind true b k = apart cc
-        behind false b k = k
-
-    own-journal : is_own text journal_path ≡ true
-    own-journal = refl
+    other-temporary p h = (or_parts (bytes_eq p journal_path) (is_temporary text p) h).1
 
     -- a path that isn't the program's own, nor the book's, has what it had
     left-other : (p : List ℕ) → p ≢ book_path → is_own text p ≡ false → node_at now p ≡ node_at tree p
@@ -204,10 +191,6 @@ module _ (tree mended : Tree) (text : List ℕ) (is : IsTree tree) (file : file_
     old-tells None e h = subst (TellsOfOthers text) (sym h) (none-told text)
     old-tells (Some content) e h = others text content found.old file (inr e) h
 
-    old-ordered : (o : Option (List ℕ)) → IsBookOf o found.old → IsBook found.old
-    old-ordered None h = subst IsBook (sym h) no-records
-    old-ordered (Some content) h = h.ordered
-
     -- with the old book or with the recovered one in its place
     pub still-found : IsRecoveredTree now text mended
     still-found = elim (cleared-at tree mended (node_at tree) steps book_path clears) [
@@ -237,7 +220,7 @@ module _ (tree mended : Tree) (text : List ℕ) (is : IsTree tree) (file : file_
               old = found.book;
               is_old = subst (λ o. IsBookOf o found.book) (sym here) its-text;
               book = found.book;
-              recovered = again tree now found.journal found.old found.book found.is_journal.ordered (old-ordered (file_at tree book_path) found.is_old) found.recovered
+              recovered = again tree now found.journal found.old found.book found.is_journal.ordered (ordered (file_at tree book_path) found.old found.is_old) found.recovered
                   (λ r c. elim c [
                     | inl j ↦ files-same found.journal journal-tells r (contained-item found.journal r j)
                     | inr o ↦ files-same found.old (old-tells (file_at tree book_path) refl found.is_old) r (contained-item found.old r o)
@@ -279,17 +262,10 @@ module _ (tree mended : Tree) (text : List ℕ) (is : IsTree tree) (file : file_
       ∙ ap (λ b. b || (bytes_eq journal_path p || false)) h
 
   journal-removed : is_among own journal_path ≡ true
-  journal-removed = taken-in journal_path ∙ ends (is_among (keys_of tree) journal_path && is_taken_out tree mended journal_path)
-    where
-      ends : (a : Bool) → (a || true) ≡ true
-      ends true = refl
-      ends false = refl
+  journal-removed = taken-in journal_path ∙ or_right (is_among (keys_of tree) journal_path && is_taken_out tree mended journal_path) true refl
 
   no-removed : (p : List ℕ) → p ≢ journal_path → (is_taken_out tree mended p ≡ true → ⊥) → is_among own p ≡ false
-  no-removed p n m = elim (cases_Bool (is_among own p)) [
-    | inl t ↦ elim (removed-is p t) [ inl j ↦ absurd (n j) | inr out ↦ absurd (m out) ]
-    | inr f ↦ f
-  ]
+  no-removed p n m = false_from_ne_true (is_among own p) (λ t. elim (removed-is p t) [ inl j ↦ n j | inr out ↦ m out ])
 
   removed-no-dir : (p : List ℕ) → is_among own p ≡ true → node_at tree p ≡ Some Directory → ⊥
   removed-no-dir p h d = elim (removed-is p h) [

@@ -26,12 +26,8 @@ pub holds-just : (named : Option (List ℕ)) (tree other now : Tree) (steps : Li
 holds-just named tree other now steps holds none is same =
     one_sorted now other holds.is_tree.sorted is.sorted (λ p. holds.at p (ap (λ o. is_free o p) none) ∙ same p)
 
--- a tree without a journal is the mended one
-pub mends-itself : (tree : Tree) → file_at tree journal_path ≡ None → MendsTo tree tree
-mends-itself tree none = rw none refl
-
 pub mends-same : (now mended : Tree) → now ≡ mended → file_at mended journal_path ≡ None → MendsTo now mended
-mends-same now mended same none = subst (λ (t : Tree). MendsTo t mended) (sym same) (mends-itself mended none)
+mends-same now mended same none = subst (λ (t : Tree). MendsTo t mended) (sym same) (rw none refl)
 
 -- a whole journal isn't passed over
 never-over : (tree mended : Tree) (text : List ℕ) → IsRecoveredTree tree text mended → IsPassedOver tree text → ⊥
@@ -39,6 +35,10 @@ never-over tree mended text is (inl no_book) = no_book is.journal is.is_journal
 never-over tree mended text is (inr directory) = is.place directory
 
 -- ---- the steps
+
+empty : (xs ys : List Step) → xs ++ ys ≡ [] → xs ≡ []
+empty [] ys h = refl
+empty (x ∷ xs) ys h = apart cc
 
 taken-clears : (tree mended : Tree) (ps : List (List ℕ)) → AllByRecursion (Clears tree mended) (map Removes (filter (is_taken_out tree mended) ps))
 taken-clears tree mended [] = tt
@@ -76,9 +76,6 @@ unnamed : (over : Bool) (tree mended : Tree) (named : Option (List ℕ)) → nam
 unnamed over tree mended named = ap (named_by named) (last-removed over tree mended) ∙ named-append named (before_last over tree mended) (Removes journal_path ∷ [])
 
 module _ (over : Bool) (tree mended : Tree) (is : IsTree tree) (mends : MendsTo tree mended) where
-  cleared-whole : (text : List ℕ) → file_at tree journal_path ≡ Some text → IsRecoveredTree tree text mended → IsOfOthers tree → (p : List ℕ) → after_steps (node_at tree) (all_steps over tree mended) p ≡ node_at mended p
-  cleared-whole text file found others p = all-cleared tree mended text is file found others over p
-
   over-steps : mended ≡ without tree (journal_path ∷ []) → all_steps over tree mended ≡ map Removes (journal_path ∷ [])
   over-steps same =
       ap (λ o. puts_book over o ++ map Removes (own_files tree mended)) (sym (book-over tree is mended same))
@@ -109,7 +106,7 @@ module _ (over : Bool) (tree mended : Tree) (is : IsTree tree) (mends : MendsTo 
   -- after all of them it is the mended tree
   pub all-leave : (o : Option (List ℕ)) → file_at tree journal_path ≡ o → Ways o → IsOfOthers tree → (p : List ℕ) → after_steps (node_at tree) (clearing over tree mended) p ≡ node_at mended p
   all-leave None e same others p = ap (λ s. after_steps (node_at tree) s p) (no-steps e) ∙ ap (λ t. node_at t p) (sym same)
-  all-leave (Some text) e (inl found) others p = ap (λ s. after_steps (node_at tree) s p) (steps-all text e) ∙ cleared-whole text e found others p
+  all-leave (Some text) e (inl found) others p = ap (λ s. after_steps (node_at tree) s p) (steps-all text e) ∙ all-cleared tree mended text is e found others over p
   all-leave (Some text) e (inr passed) others p =
       ap (λ s. after_steps (node_at tree) s p) (steps-all text e ∙ over-steps passed.1) ∙ over-cleared tree mended text is e passed.1 p
 
@@ -139,13 +136,9 @@ module _ (over : Bool) (tree mended : Tree) (is : IsTree tree) (mends : MendsTo 
       still-mends tree mended text is e found others front clears named by now holds
   part (Some text) e (inr passed) others named by front left cut now holds some =
       let none : before_last over tree mended ≡ [] = over-before passed.1 in
-      let nothing : front ≡ [] = empty-front front left (sym cut ∙ none) in
+      let nothing : front ≡ [] = empty front left (sym cut ∙ none) in
       over-begun text e passed.0 named by now (subst (λ (s : List Step). MayHold named tree s now) nothing holds)
     where
-      empty-front : (xs ys : List Step) → xs ++ ys ≡ [] → xs ≡ []
-      empty-front [] ys h = refl
-      empty-front (x ∷ xs) ys h = apart cc
-
       last-one : (xs : List Step) (y z : Step) → xs ++ y ∷ [] ≡ z ∷ [] → xs ≡ []
       last-one [] y z h = refl
       last-one (x ∷ []) y z h = apart cc
@@ -174,10 +167,6 @@ module _ (over : Bool) (tree mended : Tree) (is : IsTree tree) (mends : MendsTo 
             ]
       ]) refl mends
     where
-      empty : (xs ys : List Step) → xs ++ ys ≡ [] → xs ≡ []
-      empty [] ys h = refl
-      empty (x ∷ xs) ys h = apart cc
-
       unfound : (o : Option (List ℕ)) → IsFound tree mended o → file_at tree journal_path ≡ None → MayHold o tree [] now → MendsTo now mended
       unfound None b e holds = begun now holds
       unfound (Some t) b e holds = let bad : Some t ≡ None = sym b.0 ∙ e in apart cc

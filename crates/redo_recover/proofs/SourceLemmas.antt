@@ -1,6 +1,6 @@
 -- After a run that was broken off: which files are sources.
-use Rattle.std.proofs.Common.{◌≡◌, ◌≢◌, ℕ, zero, suc, Bool, true, false, cond, ◌⊎◌, inl, inr, List, [], ◌∷◌}
-use Rattle.std.proofs.Common.{Option, Some, None, filter, map, is_some, refl, sym, ap, subst, ◌∙◌}
+use Rattle.std.proofs.Common.{◌≡◌, ◌≢◌, ℕ, zero, suc, true, false, cond, ◌⊎◌, inl, inr, List}
+use Rattle.std.proofs.Common.{Option, Some, None, filter, is_some, refl, sym, ap, subst, ◌∙◌}
 use Rattle.std.proofs.lemmas.Bool.{cases_Bool}
 use Rattle.std.proofs.lemmas.List.Elements.{All-contains}
 use Rattle.std.proofs.lemmas.Slice.Eq.{bytes_eq-Decides}
@@ -10,12 +10,12 @@ use Rattle.std.specs.Prelude.{Contains, option_and_then, unwrap_or}
 use Rattle.std.specs.Str.{bytes_eq}
 use Rattle.redo_path.proofs.ApartLemmas.{apart}
 use Rattle.redo_names.specs.Paths.{is_among}
+use Rattle.redo_names.proofs.PathLemmas.{among-told, told-among}
 use Rattle.redo_digest.specs.Digest.{State, state_of}
 use Rattle.redo_tree.specs.Tree.{IsTree, Tree, bytes_of, file_at, node_at}
 use Rattle.redo_tree.proofs.WithoutLemmas.{file_at-without}
 use Rattle.redo_which.specs.Candidates.{book_path}
 use Rattle.redo_record.specs.Answers.{file_in}
-use Rattle.redo_record.specs.Paths.{IsAmong}
 use Rattle.redo_record.specs.declared.outcome.Outcome.TheVariants as outcomes
 use Rattle.redo_book.specs.Book.{IsText, Record, book_lines, record_at, text_of}
 use Rattle.redo_build.specs.Outcomes.{final_outcome, outcome_at}
@@ -35,6 +35,7 @@ use Rattle.redo_dir.specs.Own.{is_own}
 use Rattle.redo_mend.specs.Recovered.{said_at}
 use Rattle.redo_mend.proofs.SaidLemmas.{found-here, is_as_said, key, recovered-is, recovered-some, said-found, said-is, said-same, same-said}
 use Rattle.redo_recover.specs.Broken.{GoesOn, IsStart, MayStore, journal_of}
+use Rattle.redo_recover.proofs.StepLemmas.{none-cond}
 
 -- ---- generated files, and what is set aside
 
@@ -48,49 +49,21 @@ said-made None state bytes e h = apart cc
 said-made (Some b) None bytes e h = apart cc
 said-made (Some b) (Some digest) bytes e h = h
 
-pub item-among : (ps : List (List ℕ)) (p : List ℕ) → IsItem ps p → is_among ps p ≡ true
-item-among [] p m = absurd m
-item-among (q ∷ ps) p m = elim (cases_Bool (bytes_eq q p)) [
-  | inl here ↦ rw here refl
-  | inr other ↦ rw other (elim m [
-    | inl here ↦ let bad : false ≡ true = sym other ∙ (bytes_eq-Decides q p).1 here in apart cc
-    | inr later ↦ item-among ps p later
-  ])
-]
-
-pub among-item : (ps : List (List ℕ)) (p : List ℕ) → is_among ps p ≡ true → IsItem ps p
-among-item [] p h = apart cc
-among-item (q ∷ ps) p h = elim (cases_Bool (bytes_eq q p)) [
-  | inl here ↦ inl (same_path q p here)
-  | inr other ↦ inr (among-item ps p (rw other at h))
-]
-
-among-row : (rows : List Row) (p : List ℕ) → IsAmong (map (λ row. row.path) rows) p → (row : Row) × IsItem rows row × (row.path ≡ p)
-among-row [] p m = absurd m
-among-row (row ∷ rows) p m = elim m [
-  | inl here ↦ (row, inl refl, here)
-  | inr later ↦ let k = among-row rows p later in (k.0, inr k.1, k.2)
-]
-
 module _ (tree : Tree) (book : List Record) where
   pub in-aside : (r : Record) → IsItem book r → is_generated tree r ≡ true → is_among (set_aside tree book) r.target ≡ true
-  in-aside r m g = item-among (set_aside tree book) r.target (inr (item-mapped key (filter (is_generated tree) book) r (item-kept (is_generated tree) book r m g)))
+  in-aside r m g = told-among (set_aside tree book) r.target (inr (item-mapped key (filter (is_generated tree) book) r (item-kept (is_generated tree) book r m g)))
 
   pub book-aside : is_among (set_aside tree book) book_path ≡ true
-  book-aside = item-among (set_aside tree book) book_path (inl refl)
+  book-aside = told-among (set_aside tree book) book_path (inl refl)
 
   pub out-aside : (p : List ℕ) → p ≢ book_path → is_among (set_aside tree book) p ≡ true → (r : Record) × IsItem book r × (r.target ≡ p) × (is_generated tree r ≡ true)
-  out-aside p n h = elim (among-item (set_aside tree book) p h) [
+  out-aside p n h = elim (among-told (set_aside tree book) p h) [
     | inl here ↦ absurd (n (sym here))
     | inr made ↦
         let of = mapped-item key (filter (is_generated tree) book) p made in
         let kept = kept-item (is_generated tree) book of.0 of.1 in
         (of.0, kept.0, of.2, kept.1)
   ]
-
-pub none-cond : (b : Bool) → ◌≡◌ {A = Option (List ℕ)} (cond b None None) None
-none-cond true = refl
-none-cond false = refl
 
 -- which files the sources have
 pub source-at : (past : PastView) → IsTree past.tree → IsPast past → (p : List ℕ) → file_at past.sources p ≡ cond (is_among (set_aside past.tree past.book) p) None (file_at past.tree p)
@@ -101,9 +74,6 @@ source-at past tree is p = ap (λ t. file_at t p) is.sources ∙ file_at-without
 source-outcome : (r : Rules) (limit : ℕ) (p : List ℕ) → r.is_source p ≡ true → outcome_at r limit p ≡ Some outcomes.Source
 source-outcome r zero p h = rw h refl
 source-outcome r (suc n) p h = rw h refl
-
-is-source : (o : Option (List ℕ)) (b : List ℕ) → o ≡ Some b → is_some o ≡ true
-is-source o b e = ap is_some e
 
 module _ (given : GivenView) (result : Report) (is : IsResult given result) (start : IsStart given.past) where
   abbrev S : Tree
@@ -140,7 +110,7 @@ module _ (given : GivenView) (result : Report) (is : IsResult given result) (sta
   pub recorded : (p bytes : List ℕ) → MayStore given result is p bytes → (r : Record) × IsItem journal r × (r.target ≡ p) × (r.state ≡ state_of (Some bytes))
   recorded p bytes may =
       let built = (is.built.files p bytes).0 may.built in
-      let row = among-row rows p ((is.built.rows p).1 (inl built.0)) in
+      let row = mapped-item (λ (x : Row). x.path) rows p ((is.built.rows p).1 (inl built.0)) in
       let told = All-contains (λ (x : Row). (x.outcome ≡ final_outcome (rules_for given) given.limits.targets x.path) × (arc_value x.deps ≡ deps_of (rules_for given) given.limits.targets x.path)) rows row.0 is.built.outcomes (item-contained rows row.0 row.1) in
       let outcome : row.0.outcome ≡ outcomes.Built (Some bytes) = told.0 ∙ ap (final_outcome (rules_for given) given.limits.targets) row.2 ∙ built.1 in
       let r = record_of_row S rows row.0 in
@@ -185,11 +155,6 @@ module _ (given : GivenView) (result : Report) (is : IsResult given result) (sta
         let same : file_at M r.target ≡ file_at now r.target = ap (file_at M) at ∙ same-file p n m ∙ ap (file_at now) (sym at) in
         let some : file_at M r.target ≡ Some b = ap (file_at M) at ∙ same-file p n m ∙ file in
         said-made (file_at M r.target) r.state b some (subst (λ o. option_eq bytes_eq (state_of o) r.state ≡ true) (sym same) h)
-
-    made-same : (r : Record) (p : List ℕ) → r.target ≡ p → p ≢ book_path → is_own own_text p ≡ false → is_generated M r ≡ true → is_as_said now r ≡ true
-    made-same r p at n m h =
-        let same : file_at M r.target ≡ file_at now r.target = ap (file_at M) at ∙ same-file p n m ∙ ap (file_at now) (sym at) in
-        subst (λ o. option_eq bytes_eq (state_of o) r.state ≡ true) same (made-said (file_at M r.target) r.state h)
 
     -- a file that either book tells of is no source
     pub told-of : (p b : List ℕ) → p ≢ book_path → is_own own_text p ≡ false → file_at now p ≡ Some b → (r : Record) → (said_at now journal p ≡ Some r) ⊎ (said_at now given.past.book p ≡ Some r) → file_at past.sources p ≡ None

@@ -99,23 +99,20 @@ puts-named listed named (f ∷ files) = puts-named listed named files
 
 -- ---- files that are removed
 
+pub none-cond : {A : Type 0} (b : Bool) → ◌≡◌ {A = Option A} (cond b None None) None
+none-cond true = refl
+none-cond false = refl
+
 pub removed-at : (was : Places) (ps : List (List ℕ)) (p : List ℕ) → after_steps was (map Removes ps) p ≡ cond (is_among ps p) None (was p)
 removed-at was [] p = refl
 removed-at was (q ∷ ps) p = removed-at (after_step was (Removes q)) ps p ∙ (elim (cases_Bool (bytes_eq q p)) [
   | inl here ↦
-      let turned : bytes_eq p q ≡ true = turn p q ∙ here in
-      rw (here, turned) (none (is_among ps p))
+      let turned : bytes_eq p q ≡ true = nat_list_eq_equiv.symm p q ∙ here in
+      rw (here, turned) (none-cond (is_among ps p))
   | inr other ↦
-      let turned : bytes_eq p q ≡ false = turn p q ∙ other in
+      let turned : bytes_eq p q ≡ false = nat_list_eq_equiv.symm p q ∙ other in
       rw (other, turned) refl
 ])
-  where
-    turn : (p q : List ℕ) → bytes_eq p q ≡ bytes_eq q p
-    turn p q = nat_list_eq_equiv.symm p q
-
-    none : (b : Bool) → ◌≡◌ {A = Option Node} (cond b None None) None
-    none true = refl
-    none false = refl
 
 -- ---- what is cleared away
 
@@ -127,6 +124,12 @@ puts_book over (Some text) = Puts book_path text over ∷ []
 pub clear-parts : (over : Bool) (o : Option (List ℕ)) (own : List (List ℕ)) → steps_to_clear over o own ≡ puts_book over o ++ map Removes own
 clear-parts over None own = refl
 clear-parts over (Some text) own = refl
+
+pub taken-file : (a b c : Bool) → (a && (not b && not c)) ≡ true → (a ≡ true) × ((b ≡ false) × (c ≡ false))
+taken-file true true c h = apart cc
+taken-file true false true h = apart cc
+taken-file true false false h = (refl, (refl, refl))
+taken-file false b c h = apart cc
 
 module _ (tree mended : Tree) where
   -- a step before the journal is removed: the book is put, or a temporary file is removed
@@ -162,19 +165,7 @@ module _ (tree mended : Tree) where
   ]
 
   no-journal : (p : List ℕ) → is_taken_out tree mended p ≡ true → bytes_eq p journal_path ≡ false
-  no-journal p h = elim (cases_Bool (bytes_eq p journal_path)) [
-    | inl j ↦ let bad : false ≡ true = sym (never (is_some (file_at tree p)) (is_some (file_at mended p)) (bytes_eq p journal_path) j) ∙ h in apart cc
-    | inr other ↦ other
-  ]
-    where
-      never : (a b c : Bool) → c ≡ true → (a && (not b && not c)) ≡ false
-      never a b true e = ends a b
-        where
-          ends : (a b : Bool) → (a && (not b && false)) ≡ false
-          ends true true = refl
-          ends true false = refl
-          ends false b = refl
-      never a b false e = apart cc
+  no-journal p h = (taken-file (is_some (file_at tree p)) (is_some (file_at mended p)) (bytes_eq p journal_path) h).1.1
 
   pub cleared-named : (named : Option (List ℕ)) (steps : List Step) → AllByRecursion Clears steps → named_by named steps ≡ named
   cleared-named named [] h = refl

@@ -1,7 +1,7 @@
 -- A directory while a run stores its files.
-use Rattle.std.proofs.Common.{◌≡◌, ◌≢◌, ◌++◌, ℕ, Bool, true, false, cond, ◌⊎◌, inl, inr, List, [], ◌∷◌, Option, Some, None}
+use Rattle.std.proofs.Common.{◌≡◌, ◌++◌, ℕ, Bool, true, false, cond, ◌⊎◌, inl, inr, List, [], ◌∷◌, Option, Some, None}
 use Rattle.std.proofs.Common.{refl, sym, ap, subst, ◌∙◌}
-use Rattle.std.proofs.lemmas.Bool.{cases_Bool}
+use Rattle.std.proofs.lemmas.Bool.{cases_Bool, false_from_ne_true, or_parts}
 use Rattle.std.proofs.lemmas.List.Elements.{All-contains}
 use Rattle.std.specs.Prelude.{◌||◌, All, option_and_then}
 use Rattle.std.specs.Str.{bytes_eq}
@@ -36,13 +36,6 @@ module _ (given : GivenView) (result : Report) (is : IsResult given result) (sta
 
   abbrev AreToStore : List (List ℕ × List ℕ) → Type 0
   AreToStore files = (x : List ℕ × List ℕ) → IsItem files x → IsToStore given result is x
-
-  split-own : (p : List ℕ) → is_own text p ≡ false → (bytes_eq p journal_path ≡ false) × (is_temporary text p ≡ false)
-  split-own p h = parts (bytes_eq p journal_path) (is_temporary text p) h
-    where
-      parts : (a b : Bool) → (a || b) ≡ false → (a ≡ false) × (b ≡ false)
-      parts true b k = apart cc
-      parts false b k = (refl, k)
 
   -- where the program puts files of its own nothing stood
   own-none : (p : List ℕ) → is_own text p ≡ true → node_at given.past.tree p ≡ None
@@ -98,7 +91,7 @@ module _ (given : GivenView) (result : Report) (is : IsResult given result) (sta
       book = told book_path (book-other text) ∙ book-left;
       own = λ p n h. own-none p h;
       files = λ p n h d. own-left p h ((holds.directories p).0 d);
-      others = λ p n h. (let parts = split-own p h in other-left now p parts.0 (told p parts.1));
+      others = λ p n h. (let parts = or_parts (bytes_eq p journal_path) (is_temporary text p) h in other-left now p parts.0 (told p parts.1));
     }
       where
         told : (p : List ℕ) → is_temporary text p ≡ false → node_at now p ≡ left p
@@ -110,14 +103,12 @@ module _ (given : GivenView) (result : Report) (is : IsResult given result) (sta
       book = ap (option_and_then bytes_of) (told book_path ∙ journal-left);
       journal = told journal_path;
       others = λ p n m.
-          (let no_book = apart-path p book_path n in let no_journal = apart-path p journal_path m in
+          (let no_book = false_from_ne_true (bytes_eq p book_path) (λ t. n (same_path p book_path t)) in
+          let no_journal = false_from_ne_true (bytes_eq p journal_path) (λ t. m (same_path p journal_path t)) in
           other-left now p no_journal (told p ∙ ap (λ b. cond b (left journal_path) (cond (bytes_eq p journal_path) None (left p))) no_book
           ∙ ap (λ b. cond b None (left p)) no_journal));
     }
       where
-        apart-path : (p q : List ℕ) → p ≢ q → bytes_eq p q ≡ false
-        apart-path p q n = elim (cases_Bool (bytes_eq p q)) [ inl t ↦ absurd (n (same_path p q t)) | inr f ↦ f ]
-
         unnamed : named_by (Some text) (puts_in listed files ++ Finishes ∷ []) ≡ None
         unnamed = named-append (Some text) (puts_in listed files) (Finishes ∷ [])
 

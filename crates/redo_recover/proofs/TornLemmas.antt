@@ -3,11 +3,12 @@ use Rattle.std.proofs.Common.{◌≡◌, ◌≢◌, ◌++◌, ℕ, true, false, 
 use Rattle.std.proofs.Common.{Some, None, refl, sym, ap, subst, ◌∙◌}
 use Rattle.std.proofs.lemmas.Bool.{cases_Bool}
 use Rattle.std.proofs.lemmas.Slice.Eq.{bytes_eq-Decides}
-use Rattle.std.specs.List.{AllByRecursion, list_any}
+use Rattle.std.specs.List.{list_any}
 use Rattle.std.specs.Prelude.{flat_map}
 use Rattle.std.specs.Str.{bytes_eq}
 use Rattle.redo_path.proofs.ApartLemmas.{apart}
 use Rattle.redo_names.specs.Paths.{is_among}
+use Rattle.redo_names.proofs.PathLemmas.{told-among}
 use Rattle.redo_tree.specs.Tree.{Directory, IsTree, Tree, file_at, node_at, without}
 use Rattle.redo_tree.proofs.KeptLemmas.{one_sorted}
 use Rattle.redo_tree.proofs.WithoutLemmas.{IsTree-without, directory_stays, file_at-without, stood}
@@ -22,13 +23,9 @@ use Rattle.redo_mend.proofs.MendLemmas.{no-dir}
 use Rattle.redo_recover.specs.Broken.{IsStart}
 use Rattle.redo_recover.specs.Opening.{Opens}
 use Rattle.redo_recover.proofs.BreakLemmas.{OnePast, either-dir, same-node}
-use Rattle.redo_recover.proofs.SourceLemmas.{item-among}
+use Rattle.redo_recover.proofs.StepLemmas.{front-all}
 
 -- ---- no front of a book's text is whole
-
-front-all : {X : Type 0} (P : X → Type 0) (xs ys : List X) → AllByRecursion P (xs ++ ys) → AllByRecursion P xs
-front-all P [] ys h = tt
-front-all P (x ∷ xs) ys h = (h.0, front-all P xs ys h.1)
 
 pub whole-front : (text front rest : List ℕ) (book other : List Record) → IsText text book → text ≡ front ++ rest → IsText front other → rest ≡ []
 whole-front text front rest book other is cut also =
@@ -50,7 +47,7 @@ module _ (one_past : OnePast) (past : PastView) (start : IsStart past) (none : n
   at-journal : node_at rest journal_path ≡ None
   at-journal =
       let gone : file_at rest journal_path ≡ None =
-      file_at-without broken out journal_path is_tree ∙ ap (λ c. cond c None (file_at broken journal_path)) (item-among out journal_path (inl refl)) in
+      file_at-without broken out journal_path is_tree ∙ ap (λ c. cond c None (file_at broken journal_path)) (told-among out journal_path (inl refl)) in
       same-node (node_at rest journal_path) None (λ d. no-dir (node_at broken journal_path) text torn (stood broken out journal_path Directory is_tree d)) (λ d. apart cc) gone
 
   elsewhere : (p : List ℕ) → p ≢ journal_path → bytes_eq journal_path p ≡ false → node_at rest p ≡ node_at broken p

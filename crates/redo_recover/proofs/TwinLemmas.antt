@@ -20,12 +20,13 @@ use Rattle.redo_rules.specs.Results.{IsResult}
 use Rattle.redo_dir.specs.Own.{is_own}
 use Rattle.redo_mend.proofs.MendLemmas.{no-dir}
 use Rattle.redo_mend.proofs.OneLemmas.{OneBook, one-book-of}
-use Rattle.redo_mend.proofs.SaidLemmas.{is_as_said, said-found, said-is}
+use Rattle.redo_mend.proofs.SaidLemmas.{said-found, said-is}
 use Rattle.redo_recover.specs.Broken.{GoesOn, IsStart, journal_of}
 use Rattle.redo_recover.specs.Opening.{AreTwins, IsToldBy, IsTwinTold, StayTwins}
 use Rattle.redo_recover.proofs.BreakLemmas.{either-dir, same-node, sources-tree, stays-dir, was-dir}
 use Rattle.redo_recover.proofs.OpenLemmas.{goes-on-opened}
-use Rattle.redo_recover.proofs.SourceLemmas.{at-book, at-own, book-aside, in-aside, left, made-said, none-cond, out-aside, said-made}
+use Rattle.redo_recover.proofs.SourceLemmas.{at-book, at-own, book-aside, in-aside, left, made-said, out-aside, said-made}
+use Rattle.redo_recover.proofs.StepLemmas.{none-cond}
 use Rattle.redo_recover.proofs.SourceLemmas.{source-at, stored, told-of, unsourced, untold-of}
 
 module _ (law : OneBook) (given : GivenView) (result : Report) (is : IsResult given result) (start : IsStart given.past) (before : PastView) (began : IsStart before) (alike : given.past.sources ≡ before.sources) (now : Tree) (past : PastView) (on : GoesOn given result is now past) (other : PastView) (other_past : IsPast other) (twins : AreTwins given result is now before other.tree) where
@@ -46,12 +47,6 @@ module _ (law : OneBook) (given : GivenView) (result : Report) (is : IsResult gi
   none-at : (p : List ℕ) → file_at other.tree p ≡ None → file_at other.sources p ≡ None
   none-at p none = twin-at p ∙ ap (cond (is_among (set_aside other.tree old) p) None) none ∙ none-cond (is_among (set_aside other.tree old) p)
 
-  twin-said : (r : Record) → is_generated other.tree r ≡ true → is_as_said other.tree r ≡ true
-  twin-said r made = made-said (file_at other.tree r.target) r.state made
-
-  twin-made : (r : Record) (p b : List ℕ) → r.target ≡ p → file_at other.tree p ≡ Some b → is_as_said other.tree r ≡ true → is_generated other.tree r ≡ true
-  twin-made r p b at some said = said-made (file_at other.tree r.target) r.state b (ap (file_at other.tree) at ∙ some) said
-
   -- somebody wrote the same into both
   theirs : (p : List ℕ) → p ≢ book_path → is_own own_text p ≡ false → file_at now p ≡ file_at other.tree p → (IsToldBy given result is now p ↔ IsTwinTold before other.tree p) → file_at past.sources p ≡ file_at other.sources p
   theirs p n m file told =
@@ -66,7 +61,7 @@ module _ (law : OneBook) (given : GivenView) (result : Report) (is : IsResult gi
               let out = out-aside other.tree old p n among in
               let twin_told : IsTwinTold before other.tree p = record {
                 of = out.0;
-                said = said-found other.tree old p out.0 (past_book before began.is_past).sorted (record { item = out.1; at = out.2; as_said = twin-said out.0 out.3 });
+                said = said-found other.tree old p out.0 (past_book before began.is_past).sorted (record { item = out.1; at = out.2; as_said = made-said (file_at other.tree out.0.target) out.0.state out.3 });
               } in
               let mine_told = told.1 twin_told in
               let mine = told-of given result is start law now past on p b n m (file ∙ some) mine_told.of mine_told.said in
@@ -75,7 +70,7 @@ module _ (law : OneBook) (given : GivenView) (result : Report) (is : IsResult gi
               let never : IsToldBy given result is now p → ⊥ = λ mine_told.
               (let twin_told = told.0 mine_told in
               let said = said-is other.tree old p twin_told.of twin_told.said in
-              let made = twin-made twin_told.of p b said.at some said.as_said in
+              let made = said-made (file_at other.tree twin_told.of.target) twin_told.of.state b (ap (file_at other.tree) said.at ∙ some) said.as_said in
               let bad : true ≡ false = sym (ap (is_among (set_aside other.tree old)) (sym said.at) ∙ in-aside other.tree old twin_told.of said.item made) ∙ source in
               apart cc) in
               let mine = untold-of given result is start law now past on p b n m (file ∙ some)

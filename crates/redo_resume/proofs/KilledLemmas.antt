@@ -1,19 +1,19 @@
 -- The steps of a run are those of the laws on broken-off runs, and the files that it stores are what these are to store.
 use Rattle.std.proofs.Common.{◌≡◌, ◌≢◌, ◌⊎◌, ℕ, Bool, true, false, not, inl, inr, List, [], ◌∷◌, ◌++◌, Option, Some, None}
-use Rattle.std.proofs.Common.{filter, is_some, refl, sym, ap, subst, ◌∙◌, append-nil, bytes_eq, true≢false}
+use Rattle.std.proofs.Common.{is_some, refl, sym, ap, subst, ◌∙◌, append-nil, bytes_eq}
 use Rattle.std.specs.Prelude.{All, find, option_map}
-use Rattle.std.specs.Cmp.Lexicographic.{slice_cmp}
+use Rattle.std.specs.Cmp.Lexicographic.{nat_list_eq_equiv, slice_cmp}
 use Rattle.std.specs.Ordering.{nat_cmp, is_eq, match_ordering}
 use Rattle.std.specs.declared.cmp.Ordering.{Ordering}
 use Rattle.std.specs.declared.cmp.Ordering.TheVariants.{Less, Equal, Greater}
-use Rattle.std.proofs.lemmas.Bool.{cases_Bool}
+use Rattle.std.proofs.lemmas.Bool.{cases_Bool, false_from_ne_true}
 use Rattle.std.proofs.lemmas.List.Elements.{All-contains, All-from_recursion}
 use Rattle.std.proofs.lemmas.Map.Text.{is_eq-slice_cmp}
 use Rattle.std.proofs.lemmas.Slice.Eq.{bytes_eq-Decides}
 use Rattle.redo_tree.specs.Tree.{Directory, IsTree, Tree, file_at, node_at}
 use Rattle.redo_which.specs.Candidates.{book_path, journal_path}
 use Rattle.redo_past.specs.NewBook.{with_file}
-use Rattle.redo_past.proofs.ItemLemmas.{IsItem, all-items, item-contained}
+use Rattle.redo_past.proofs.ItemLemmas.{IsItem, all-items, item-contained, item-kept, kept-item}
 use Rattle.redo_report.specs.declared.report.Report.{Report}
 use Rattle.redo_rules.specs.Build.{GivenView}
 use Rattle.redo_rules.specs.Results.{IsResult}
@@ -48,16 +48,7 @@ later-text f files is = rw is refl
 
 -- whether the path of a file is the book's, by how the two compare
 is-book : (f : File) (v : Ordering) → slice_cmp nat_cmp book_path f.0 ≡ v → bytes_eq f.0 book_path ≡ is_eq v
-is-book f v e = turned f.0 ∙ sym (is_eq-slice_cmp book_path f.0) ∙ ap is_eq e
-  where
-    turned : (p : List ℕ) → bytes_eq p book_path ≡ bytes_eq book_path p
-    turned p = elim (cases_Bool (bytes_eq book_path p)) [
-      | inl t ↦ (bytes_eq-Decides p book_path).1 (sym ((bytes_eq-Decides book_path p).0 t)) ∙ sym t
-      | inr f ↦ elim (cases_Bool (bytes_eq p book_path)) [
-        | inl t ↦ absurd (true≢false (sym ((bytes_eq-Decides book_path p).1 (sym ((bytes_eq-Decides p book_path).0 t))) ∙ f))
-        | inr g ↦ g ∙ sym f
-      ]
-    ]
+is-book f v e = nat_list_eq_equiv.symm f.0 book_path ∙ sym (is_eq-slice_cmp book_path f.0) ∙ ap is_eq e
 
 text-with : (files : List File) (text : List ℕ) → text_among (with_file files book_path text) ≡ Some text
 text-with [] text = first-text (book_path, text) [] ((bytes_eq-Decides book_path book_path).1 refl)
@@ -68,29 +59,6 @@ text-with (f ∷ files) text =
       | Equal ↦ λ e. first-text (f.0, text) files (is-book f Equal e)
       | Greater ↦ λ e. later-text f (with_file files book_path text) (is-book f Greater e) ∙ text-with files text
     ]) refl
-
-some-same : {X : Type 0} → (x y : X) → Some x ≡ Some y → x ≡ y
-some-same x y e = ap (λ o. elim o [ None ↦ x | Some z ↦ z ]) e
-
--- ---- items of filtered lists
-
-module _ {X : Type 0} (q : X → Bool) where
-  item-kept : (xs : List X) (x : X) → IsItem xs x → q x ≡ true → IsItem (filter q xs) x
-  item-kept [] x m t = absurd m
-  item-kept (y ∷ ys) x m t = elim m [
-    | inl here ↦ let is : q y ≡ true = ap q here ∙ t in rw is (inl here)
-    | inr later ↦ elim (cases_Bool (q y)) [
-      | inl is ↦ rw is (inr (item-kept ys x later t))
-      | inr out ↦ rw out (item-kept ys x later t)
-    ]
-  ]
-
-  item-from : (xs : List X) (x : X) → IsItem (filter q xs) x → IsItem xs x
-  item-from [] x m = absurd m
-  item-from (y ∷ ys) x m = elim (cases_Bool (q y)) [
-    | inl is ↦ elim (rw is at m) [ inl here ↦ inl here | inr later ↦ inr (item-from ys x later) ]
-    | inr out ↦ inr (item-from ys x (rw out at m))
-  ]
 
 -- ---- the law
 
@@ -108,24 +76,23 @@ module _ (loaded mended : Tree) (options : Options) (report : Report) (book : Li
   -- the text of the new book is that of the journal
   text-is : book ≡ text
   text-is =
-      some-same book text
-      (sym (text-with report.files.items book) ∙ ap text_among (sym built.parts.files ∙ built.is.with_book.files)
-      ∙ text-with built.is.report.files.items text)
+      let same : Some book ≡ Some text =
+      sym (text-with report.files.items book) ∙ ap text_among (sym built.parts.files ∙ built.is.with_book.files)
+      ∙ text-with built.is.report.files.items text in
+      cc
 
   -- a file of the report is one that the build made
   made : (f : File) → IsItem report.files.items f → IsItem built.is.report.files.items f
   made f m =
-      let other : bytes_eq f.0 book_path ≡ false = elim (cases_Bool (bytes_eq f.0 book_path)) [
-        | inl t ↦ absurd (All-contains (λ (x : File). x.0 ≢ book_path) report.files.items f built.parts.none
-            (item-contained report.files.items f m) ((bytes_eq-Decides f.0 book_path).0 t))
-        | inr out ↦ out
-      ] in
+      let other : bytes_eq f.0 book_path ≡ false = false_from_ne_true (bytes_eq f.0 book_path) (λ t.
+      All-contains (λ (x : File). x.0 ≢ book_path) report.files.items f built.parts.none
+      (item-contained report.files.items f m) ((bytes_eq-Decides f.0 book_path).0 t)) in
       let same : but_book report.files.items ≡ but_book built.is.report.files.items =
       sym (others-of report.files.items book) ∙ ap but_book (sym built.parts.files ∙ built.is.with_book.files)
       ∙ others-of built.is.report.files.items text in
-      item-from (λ (x : File). not (bytes_eq x.0 book_path)) built.is.report.files.items f
+      (kept-item (λ (x : File). not (bytes_eq x.0 book_path)) built.is.report.files.items f
       (subst (λ (l : List File). IsItem l f) same
-      (item-kept (λ (x : File). not (bytes_eq x.0 book_path)) report.files.items f m (ap not other)))
+      (item-kept (λ (x : File). not (bytes_eq x.0 book_path)) report.files.items f m (ap not other)))).0
 
   module _ (clear : IsClear mended book report.files.items) where
     to-store : (f : File) → IsItem report.files.items f → IsToStore given built.whole built.is f
@@ -148,7 +115,7 @@ module _ (loaded mended : Tree) (options : Options) (report : Report) (book : Li
     all-to-store =
         All-from_recursion (IsToStore given built.whole built.is) (others_from mended report.files.items)
         (all-items (IsToStore given built.whole built.is) (others_from mended report.files.items)
-        (λ f m. to-store f (item-from (λ (x : File). not (stands_in mended x)) report.files.items f m)))
+        (λ f m. to-store f (kept-item (λ (x : File). not (stands_in mended x)) report.files.items f m).0))
 
 -- what the laws on broken-off runs say
 abbrev pub Clears : Type 0

@@ -126,17 +126,9 @@ module _ (s : Sources) (last : LastRun) (a : Ask) where
   fallen-some None why is = absurd cc
   fallen-some (Some e) why is = (e, refl, cc)
 
-  intact-begins : (r : Record) → s.has_rule r.target ≡ true → is_intact last.file r ≡ true →
-      begins_checked s (check_from s last false (Some r)) a ≡ is_fallen (finding s a r.entries).standing
-  intact-begins r ruled intact = rw (ruled, intact) refl
-
   pub intact-reason : (r : Record) → is_intact last.file r ≡ true →
       reason_recorded s last a (Some r) ≡ reason_fallen (first_fallen s a r.entries)
   intact-reason r intact = rw intact refl
-
-  altered-begins : (r : Record) → s.has_rule r.target ≡ true → is_intact last.file r ≡ false →
-      begins_checked s (check_from s last false (Some r)) a ≡ true
-  altered-begins r ruled altered = rw (ruled, altered) refl
 
   altered-reason : (r : Record) → is_intact last.file r ≡ false → reason_recorded s last a (Some r) ≡ Some Altered
   altered-reason r altered = rw altered refl
@@ -156,13 +148,13 @@ module _ (s : Sources) (last : LastRun) (a : Ask) where
     | inl t ↦ (
       λ begun.
           let fell = falls-first s a r.entries
-          (is_fallen-falls (finding s a r.entries).standing (sym (intact-begins r (ruled r refl) t) ∙ begun)) in
+          (is_fallen-falls (finding s a r.entries).standing (rw (ruled r refl, t) at begun)) in
           (Fallen fell.0, intact-reason r t ∙ ap reason_fallen fell.1),
       λ some.
           let found = fallen-some (first_fallen s a r.entries) some.0 (sym (intact-reason r t) ∙ some.1) in
-          intact-begins r (ruled r refl) t ∙ ap is_fallen (first-falls-all s a r.entries found.0 found.1),
+          rw (ruled r refl, t) (ap is_fallen (first-falls-all s a r.entries found.0 found.1)),
     )
-    | inr f ↦ (λ _. (Altered, altered-reason r f), λ _. altered-begins r (ruled r refl) f)
+    | inr f ↦ (λ _. (Altered, altered-reason r f), λ _. rw (ruled r refl, f) refl)
   ]
 
   -- Which reason

@@ -7,7 +7,8 @@ use Rattle.redo_explain.specs.declared.begun.Reason.{Reason as ReasonHere}
 use Rattle.redo_explain.specs.Views.{reason_view}
 use Rattle.redo_which.specs.Rule.{found_of}
 use Rattle.redo_why.specs.Reasons.{Reason}
-use Rattle.redo_json.specs.Members.{Known}
+use Rattle.redo_names.specs.Paths.{is_among}
+use Rattle.redo_json.specs.Rows.{Known}
 use Rattle.redo_json.specs.Told.{Reasons, diagnosis_in, reasons_in}
 use Rattle.redo_json.specs.declared.known.Known.{Known as KnownHere}
 
@@ -34,4 +35,6 @@ known_by known =
       found = found_of known.sources.now;
       reason = reasons_by known.reasons;
       diagnosis = diagnoses_by known.diagnoses;
+      before = known.before.now;
+      failed = is_among known.failed;
     }

@@ -31,4 +31,5 @@ known_by links = record {
   users = users_at links.users.items;
   is_told = λ path. is_among links.diagnosed path;
   why = whys_by links.whys.now;
+  is_changed = λ path. is_among links.changed path;
 }

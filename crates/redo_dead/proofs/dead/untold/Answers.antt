@@ -5,7 +5,7 @@ use Rattle.redo_names.specs.Paths.{is_among}
 use Rattle.redo_book.specs.Book.{record_of}
 use Rattle.redo_clean.specs.Planned.{File}
 use Rattle.redo_dead.specs.inside.Files.{dead_file}
-use Rattle.redo_dead.proofs.DeadLemmas.{found-more}
+use Rattle.redo_clean.proofs.PlanLemmas.{found-more}
 use Rattle.redo_dead.proofs.dead.untold.Goals as goal
 use Rattle.redo_dead.proofs.dead.untold.Goals.{in-Some+in_ok-push, in_default}
 

@@ -13,4 +13,4 @@ returns-clause-within c = λ before tree request limits plain after is_plain apa
     c.no_other_file_is_taken_out.ensures before tree request limits plain after is_plain many.0 many.1 apart many.2
 
 pub returns-clause-last : goal.returns-clause-last
-returns-clause-last c = λ before tree has. book-of-any before tree has
+returns-clause-last c = book-of-any

@@ -7,8 +7,8 @@ pub returns : goal.returns
 returns c = record {
   begun = map begun_view c.in_ok-begun.begun.items;
   text_is =
-      told-text c.in_ok-text.text.items c.in_ok-tokens.tokens _ _ c.args.past.now.sources _ c.args.report.now.rows.items
-      _ c.in_ok-begun.begun.items c.args.told.now.diagnoses.now c.args.told.now.status c.args.told.now.rings.now
-      c.args.told.now.notes.now c.in_ok-text.ensures c.in_ok-tokens.ensures c.in_ok-known.ensures (search rules) (search rules) (search rules);
+      told-text c.in_ok-text.text.items c.in_ok-tokens.tokens _ c.args.past.now c.args.told.now _ c.deref.result.now
+      c.args.report.now.rows.items _ c.in_ok-begun.begun.items c.args.told.now.diagnoses.now c.in_ok-text.ensures
+      c.in_ok-tokens.ensures c.in_ok-known.ensures (search rules) (search rules) (search rules);
   reasons = c.in_ok-begun.ensures;
 }

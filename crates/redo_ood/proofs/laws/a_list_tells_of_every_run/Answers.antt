@@ -2,4 +2,4 @@ use Rattle.redo_ood.proofs.WordLemmas.{every-word}
 use Rattle.redo_ood.proofs.laws.a_list_tells_of_every_run.Goals as goal
 
 pub returns : goal.returns
-returns c = λ s last r at. every-word s last r at
+returns c = every-word

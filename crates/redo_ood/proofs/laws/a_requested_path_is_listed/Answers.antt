@@ -5,7 +5,7 @@ use Rattle.redo_ood.proofs.ReportLemmas.{in-list, new-at, silent-at, unknown-at}
 use Rattle.redo_ood.proofs.laws.a_requested_path_is_listed.Goals as goal
 
 pub returns-clause-silent : goal.returns-clause-silent
-returns-clause-silent c = λ given listed list p asked unlisted. silent-at given listed list p asked unlisted
+returns-clause-silent c = silent-at
 
 pub returns-clause-new : goal.returns-clause-new
 returns-clause-new c = λ given listed list p asked other rule none.

@@ -1,9 +1,10 @@
 use Rattle.std.proofs.Common.{◌≡◌, ◌++◌, drop, flat_map}
-use Rattle.redo_page.specs.Html.{visible, reference}
+use Rattle.redo_page.specs.Html.{visible}
+use Rattle.redo_page.specs.inside.Forms.{stands_for}
 use Rattle.redo_page.proofs.escape.push_text.Given as goal
 
 -- what was added, with what is left, is all
 abbrev pub invariant-loop-byte : goal.invariant-loop-byte
 invariant-loop-byte l =
-    l.out.items ++ flat_map reference (flat_map visible (drop l.byte-index l.bytes))
-    ≡ l.initial.out.items ++ flat_map reference (flat_map visible l.bytes)
+    l.out.items ++ flat_map (stands_for l.form) (flat_map visible (drop l.byte-index l.bytes))
+    ≡ l.initial.out.items ++ flat_map (stands_for l.form) (flat_map visible l.bytes)

@@ -7,5 +7,5 @@ use Rattle.redo_page.proofs.rows.push_rows.Given as goal
 -- what was added, with what is left, is all
 abbrev pub invariant-loop-number : goal.invariant-loop-number
 invariant-loop-number l =
-    l.out ++ text_of (rows_pieces (known_by l.links) l.rows l.number (drop l.number l.rows))
-    ≡ l.initial.out ++ text_of (rows_pieces (known_by l.links) l.rows 0 l.rows)
+    l.out ++ text_of (rows_pieces (known_by l.links) l.all l.number (drop l.number l.rows))
+    ≡ l.initial.out ++ text_of (rows_pieces (known_by l.links) l.all 0 l.rows)

@@ -7,7 +7,7 @@ use Rattle.redo_why.proofs.ReasonLemmas.{begun-reason}
 use Rattle.redo_why.proofs.laws.each_begun_has_a_reason.Goals as goal
 
 pub returns-clause-begun : goal.returns-clause-begun
-returns-clause-begun c = λ s last request a p ruled. begun-reason s last request a p ruled
+returns-clause-begun c = begun-reason
 
 pub returns-clause-taken : goal.returns-clause-taken
 returns-clause-taken c = λ s last request limit events lawful all_open quiet looked few p.

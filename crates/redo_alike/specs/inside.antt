@@ -1,0 +1,4 @@
+pub mod Groups
+pub mod Heights
+pub mod Known
+pub mod Walks

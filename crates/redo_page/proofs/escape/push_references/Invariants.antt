@@ -1,8 +1,0 @@
-use Rattle.std.proofs.Common.{◌≡◌, ◌++◌, drop, flat_map}
-use Rattle.redo_page.specs.Html.{reference}
-use Rattle.redo_page.proofs.escape.push_references.Given as goal
-
--- what was added, with what is left, is all
-abbrev pub invariant-loop-byte : goal.invariant-loop-byte
-invariant-loop-byte l =
-    l.out.items ++ flat_map reference (drop l.byte-index l.bytes) ≡ l.initial.out.items ++ flat_map reference l.bytes

@@ -1,0 +1,2 @@
+pub mod BlockedLemmas
+pub mod RuleLemmas

@@ -1,0 +1,3 @@
+pub mod Blocked
+pub mod Rows
+pub mod inside
