@@ -6,6 +6,7 @@ pub mod FrontLemmas
 pub mod JournalLemmas
 pub mod LevelLemmas
 pub mod ListingLemmas
+pub mod LoadLemmas
 pub mod OwnLemmas
 pub mod ReadingLemmas
 pub mod TextLemmas

@@ -1,12 +1,12 @@
 -- Lists of names that were listed, of what they came to, and of the entries among that.
-use Rattle.std.proofs.Common.{◌≡◌, ◌+◌, ◌<◌, ℕ, List, [], ◌∷◌, ◌++◌, refl, sym, ap, subst, ◌∙◌, arith, zero, suc, get_or, length, map}
+use Rattle.std.proofs.Common.{◌≡◌, ◌+◌, ◌<◌, ℕ, List, [], ◌∷◌, ◌++◌, refl, sym, ap, subst, ◌∙◌, arith, zero, suc, get_or, length, map, slice_get, take}
 use Rattle.std.proofs.Common.{Option, Some, None, cond, append_assoc}
 use Rattle.std.proofs.lemmas.List.Sums.{sum_by-append}
 use Rattle.std.specs.List.{AllByRecursion, AllZip, FoldsTo}
 use Rattle.std.specs.Prelude.{Result, Ok, Err, count_by, is_none}
 use Rattle.redo_tree.specs.declared.faults.TreeFault.{TreeFault}
-use Rattle.redo_tree.specs.Tree.{Node, Directory, File, Tree, added, grown}
-use Rattle.redo_dir.specs.Loaded.{Listing, asked, directories, entries_of, names_of}
+use Rattle.redo_tree.specs.Tree.{Node, Tree, added, grown}
+use Rattle.redo_dir.specs.Loaded.{Listing, asked, entries_of, found_dirs, names_of}
 
 -- one step more, behind those before
 pub FoldsTo-last : {P A : Type 0} (R : P → A → P → Type 0) (p q r : P) (xs : List A) (x : A) → FoldsTo R p xs q → R q x r → FoldsTo R p (xs ++ x ∷ []) r
@@ -48,10 +48,10 @@ pub names-append : (ls ms : List Listing) → names_of (ls ++ ms) ≡ names_of l
 names-append [] ms = refl
 names-append (l ∷ ls) ms = ap (λ ns. asked l.0 l.1 ++ ns) (names-append ls ms) ∙ sym (append_assoc (asked l.0 l.1) (names_of ls) (names_of ms))
 
-pub directories-append : (es fs : List (List ℕ × Node)) → directories (es ++ fs) ≡ directories es ++ directories fs
-directories-append [] fs = refl
-directories-append ((path, Directory) ∷ es) fs = ap (λ ds. path ∷ ds) (directories-append es fs)
-directories-append ((path, File bytes) ∷ es) fs = directories-append es fs
+pub found_dirs-append : (es fs : List (List ℕ × Option ℕ)) → found_dirs (es ++ fs) ≡ found_dirs es ++ found_dirs fs
+found_dirs-append [] fs = refl
+found_dirs-append ((path, None) ∷ es) fs = ap (λ ds. path ∷ ds) (found_dirs-append es fs)
+found_dirs-append ((path, Some size) ∷ es) fs = found_dirs-append es fs
 
 abbrev onward : List (List ℕ × Node) → Result Tree TreeFault → Result Tree TreeFault
 onward es r = elim r [ Ok next ↦ grown next es | Err fault ↦ Err fault ]
@@ -64,9 +64,19 @@ grown-on old mid (x ∷ xs) fs result h k = elim (added old x.0 x.1) as (λ r. o
   | Err fault ↦ λ g. cc
 ] h
 
--- one entry grows it, or doesn't
+-- one entry more grows it
 pub grown-one : (tree next : Tree) (e : List ℕ × Node) → added tree e.0 e.1 ≡ Ok next → grown tree (e ∷ []) ≡ Ok next
 grown-one tree next e h = ap (onward []) h
 
-pub grown-none : (tree : Tree) (e : List ℕ × Node) (fault : TreeFault) → added tree e.0 e.1 ≡ Err fault → grown tree (e ∷ []) ≡ Err fault
-grown-none tree e fault h = ap (onward []) h
+-- an entry that can't be added to what those before it made
+pub grown-none : {A : Type 0} (f : A → List ℕ × Node) (tree mid : Tree) (xs : List A) (n : ℕ) (x : A) (fault : TreeFault) → slice_get xs n ≡ Some x → grown tree (map f (take n xs)) ≡ Ok mid → added mid (f x).0 (f x).1 ≡ Err fault → grown tree (map f xs) ≡ Err fault
+grown-none f tree mid [] n x fault e h k = absurd (let no : None ≡ Some x = e in cc)
+grown-none f tree mid (y ∷ ys) zero x fault e h k =
+    let one : y ≡ x = cc in
+    let same : tree ≡ mid = cc in
+    ap (onward (map f ys)) (ap (λ z. added tree (f z).0 (f z).1) one ∙ ap (λ t. added t (f x).0 (f x).1) same ∙ k)
+grown-none f tree mid (y ∷ ys) (suc n) x fault e h k =
+    (elim (added tree (f y).0 (f y).1) as (λ r. onward (map f (take n ys)) r ≡ Ok mid → onward (map f ys) r ≡ Err fault) [
+      | Ok next ↦ λ g. grown-none f next mid ys n x fault e g k
+      | Err other ↦ λ g. absurd (let no : Err other ≡ Ok mid = g in cc)
+    ]) h

@@ -1,3 +1,4 @@
 pub mod Batches
 pub mod Clearing
+pub mod Contents
 pub mod Levels

@@ -1,14 +1,16 @@
 //! Directories: read as trees, and given the files that a build made.
 //!
-//! [`load_dir`] makes a tree of a directory, [`load_names`] one of its names alone, and [`store_files`] puts files
-//! into one, each whole before it gets its name. All reach the file system through [`WorkDir`] alone, of which
+//! [`list_names`] finds what a directory has, [`Names::load`] makes a tree of it with the files that are wanted,
+//! [`load_dir`] one with all and [`load_names`] one with none. [`store_files`] puts files into a directory, each whole
+//! before it gets its name. All reach the file system through [`WorkDir`] alone, of which
 //! [`SystemDir`] is the system's; a test has one of its own.
 //!
 //! - `work_dir`: what a run asks of the file system; `changes`: what it changed;
 //! - `system`: a directory of the system; `access`: what a run may do there; `reading`: what a place leads to, and the
 //!   bytes of its file; `new_files`: files that are made; `waiting`: what is asked between two changes;
 //! - `calls`: the single calls that a directory of the system stands on; `system_calls`: those of the system;
-//! - `loading`: a directory as a tree; `places`: which of its names a tree takes in; `looking`: what they lead to;
+//! - `listing`: what a directory has at which paths; `places`: which of its names a tree takes in; `looking`: what they
+//!   lead to; `contents`: the files that are read; `loading`: a tree of both;
 //! - `storing`: files that are stored; `batches`: which of them together, and by how many threads; `drafts`: how they are
 //!   written and named;
 //! - `faults`: why a directory was not read, or a file not stored; `unwritten`: why one file was not.
@@ -19,9 +21,11 @@ mod batches;
 mod calls;
 mod changes;
 mod clearing;
+mod contents;
 mod drafts;
 mod faults;
 mod journal;
+mod listing;
 mod loading;
 mod lock;
 mod looking;
@@ -39,8 +43,10 @@ mod work_dir;
 pub use calls::{Calls, ClosedFile, NewFile};
 pub use changes::Change;
 pub use clearing::{Left, clear};
+pub use contents::{Place, Reading, Wanted};
 pub use faults::{JournalFault, LoadFault, StoreFault};
 pub use journal::{ToStore, store_by_journal};
+pub use listing::{Names, list_names};
 pub use loading::{load_dir, load_names};
 pub use lock::{DirLock, LockFault, Lockable, lock_dir};
 pub use own::{Tag, journal_path};

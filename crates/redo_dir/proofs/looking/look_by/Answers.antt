@@ -1,7 +1,6 @@
 use Rattle.std.proofs.Common.{◌≡◌, ◌<◌, ℕ, length, get_or, of_calls, rules}
 use Rattle.redo_dir.specs.declared.looking.Name.{Name}
-use Rattle.redo_dir.specs.Loaded.{Leads}
-use Rattle.redo_dir.specs.inside.Levels.{IsLooked, reads_by}
+use Rattle.redo_dir.specs.inside.Levels.{IsLooked}
 use Rattle.redo_dir.proofs.ListingLemmas.{all_each, map_each}
 use Rattle.redo_dir.proofs.looking.look_by.Goals as goal
 
@@ -12,7 +11,6 @@ returns-clause-paths g c =
 
 pub returns-clause-looked : goal.returns-clause-looked
 returns-clause-looked g c =
-    let leads = Leads (g.D.WorkDir.looks c.args.dir.now) (reads_by c.args.walk.contents (g.D.WorkDir.reads c.args.dir.now)) in
-    let looked = IsLooked leads (g.D.WorkDir.refuses c.args.dir.now) in
+    let looked = IsLooked (g.D.WorkDir.looks c.args.dir.now) (g.D.WorkDir.refuses c.args.dir.now) in
     let each : (k : ℕ) (d : Name) → k < length c.for_each_mut.new.s → looked (get_or c.for_each_mut.new.s k d) = search (rules, of_calls) in
     all_each looked c.for_each_mut.new.s each

@@ -1,6 +1,6 @@
 use Rattle.redo_dir.specs.inside.Levels.{ListsDir, progress, with_none_waiting}
 use Rattle.redo_dir.proofs.ListingLemmas.{FoldsTo-last}
-use Rattle.redo_dir.proofs.loading.Loading.list_level.Goals as goal
+use Rattle.redo_dir.proofs.listing.Walk.list_level.Goals as goal
 
 pub dirs-preserved : goal.dirs-preserved
 dirs-preserved g c =

@@ -5,7 +5,7 @@ use Rattle.std.specs.Prelude.{option_map, string_bytes}
 use Rattle.redo_dir.specs.Loaded.{names_in}
 use Rattle.redo_dir.specs.inside.Levels.{Notes, progress}
 use Rattle.redo_dir.proofs.ListingLemmas.{FoldsTo-last}
-use Rattle.redo_dir.proofs.loading.Loading.note_names.Goals as goal
+use Rattle.redo_dir.proofs.listing.Walk.note_names.Goals as goal
 
 pub names-preserved : goal.names-preserved
 names-preserved c =

@@ -1,6 +1,6 @@
 use Rattle.std.specs.List.{FoldsTo}
 use Rattle.redo_dir.specs.inside.Levels.{ListsDir, progress, with_none_waiting}
-use Rattle.redo_dir.proofs.loading.Loading.list_level.Given as goal
+use Rattle.redo_dir.proofs.listing.Walk.list_level.Given as goal
 
 -- the directories so far were listed
 abbrev pub invariant-dirs : goal.invariant-dirs

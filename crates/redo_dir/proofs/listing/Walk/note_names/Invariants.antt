@@ -1,7 +1,7 @@
 use Rattle.std.specs.List.{FoldsTo}
 use Rattle.redo_dir.specs.Loaded.{names_in}
 use Rattle.redo_dir.specs.inside.Levels.{Notes, progress}
-use Rattle.redo_dir.proofs.loading.Loading.note_names.Given as goal
+use Rattle.redo_dir.proofs.listing.Walk.note_names.Given as goal
 
 -- the names so far were noted
 abbrev pub invariant-names : goal.invariant-names

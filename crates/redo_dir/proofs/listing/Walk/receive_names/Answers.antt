@@ -1,8 +1,8 @@
 use Rattle.std.proofs.Common.{◌≡◌, ◌++◌, ◌∷◌, [], ◌∙◌, ap, rules, sym, subst, append_assoc, Err}
 use Rattle.std.specs.Prelude.{IfErr}
-use Rattle.redo_dir.specs.inside.Levels.{ReceivesName, StopsAt, progress}
+use Rattle.redo_dir.specs.inside.Levels.{BreaksIn, ReceivesName, progress}
 use Rattle.redo_dir.proofs.ListingLemmas.{FoldsTo-last}
-use Rattle.redo_dir.proofs.loading.Loading.receive_names.Goals as goal
+use Rattle.redo_dir.proofs.listing.Walk.receive_names.Goals as goal
 
 pub names-preserved : goal.names-preserved
 names-preserved c =
@@ -19,5 +19,5 @@ returns-in_err-receive_name-clause-stops c =
     let next : c.names.name-iterator.rest.items ≡ name ∷ c.next.new.self.rest.items = search rules in
     let are = c.names.invariant.left ∙ ap (λ ns. c.names.yielded ++ ns) next in
     let told : Err c.in_err-receive_name.field-0.0 ≡ c.from_residual.result = search rules in
-    subst (λ r. IfErr r (StopsAt (progress c.args.self.now) c.args.names.items)) told
-    (c.names.yielded, c.next.new.self.rest.items, name, progress c.names.self, are, c.names.invariant.received, c.in_err-receive_name.ensures.broken)
+    subst (λ r. IfErr r (BreaksIn c.args.names.items)) told
+    (c.names.yielded, c.next.new.self.rest.items, name, are, c.in_err-receive_name.ensures.broken)

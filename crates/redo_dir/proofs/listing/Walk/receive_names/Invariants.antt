@@ -1,7 +1,7 @@
 use Rattle.std.proofs.Common.{◌≡◌, ◌++◌}
 use Rattle.std.specs.List.{FoldsTo}
 use Rattle.redo_dir.specs.inside.Levels.{ReceivesName, progress}
-use Rattle.redo_dir.proofs.loading.Loading.receive_names.Given as goal
+use Rattle.redo_dir.proofs.listing.Walk.receive_names.Given as goal
 
 -- the names so far were received, and the others are still to be
 abbrev pub invariant-names : goal.invariant-names
