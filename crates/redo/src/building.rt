@@ -1,7 +1,7 @@
 //! Builds.
 
 ghost use Rattle.std.specs.Prelude.{◌≡◌, false};
-ghost use Rattle.redo_core.specs.Permits.{IsUnused};
+ghost use Rattle.redo_run.specs.Directories.{AllowsRounds};
 
 use crate::after::{After, Built, say_after, warn_of_book_above};
 use crate::behind::{Behind, Watched};
@@ -62,7 +62,7 @@ pub(crate) fn build<H: Runtime + Threads + Wait + Sync>(
 where
     H::File: Send + Lockable,
     H::Dir: Send,
-    requires permit { IsUnused host.old.permit }
+    requires permit { AllowsRounds host.old.permit }
 {
     let began = began_for(host.rt, host.alloc(), build)?;
     let outcome = match build.format {
@@ -184,7 +184,7 @@ pub(crate) fn build_and_write<H: Runtime + Threads + Wait + Sync, W: Write + Dro
 where
     H::File: Send + Lockable,
     H::Dir: Send,
-    requires permit { IsUnused host.old.permit }
+    requires permit { AllowsRounds host.old.permit }
 {
     let stream = Watched {
         stream,
@@ -214,7 +214,7 @@ where
     H::File: Send + Lockable,
     H::Dir: Send,
     requires writer { writer.old.out.broken ≡ false }
-    requires permit { IsUnused host.old.permit }
+    requires permit { AllowsRounds host.old.permit }
 {
     let run = match &build.input {
         Input::Bundle => {
@@ -240,7 +240,7 @@ where
     H::File: Send + Lockable,
     H::Dir: Send,
     requires writer { writer.old.out.broken ≡ false }
-    requires permit { IsUnused host.old.permit }
+    requires permit { AllowsRounds host.old.permit }
 {
     if build.storing == Storing::Nothing {
         let dir = SystemDir::new(host.rt, host.alloc(), dir);

@@ -1,6 +1,6 @@
 //! Built files that a build no longer needs.
 
-ghost use Rattle.redo_core.specs.Permits.{IsUnused};
+ghost use Rattle.redo_run.specs.Directories.{AllowsRounds};
 
 use crate::building::{Run, build_and_write};
 use crate::cleaning::{clean_by_plan, print};
@@ -47,7 +47,7 @@ fn try_out<H: Runtime + Threads + Wait + Sync>(
 where
     H::File: Send + Lockable,
     H::Dir: Send,
-    requires permit { IsUnused host.old.permit }
+    requires permit { AllowsRounds host.old.permit }
 {
     let alloc = host.alloc();
     let outcome = build_and_write(host, build, io::sink(), cause);
@@ -77,7 +77,7 @@ fn remove_dead<H: Runtime + Threads + Wait + Sync>(
 where
     H::File: Send + Lockable,
     H::Dir: Send,
-    requires permit { IsUnused host.old.permit }
+    requires permit { AllowsRounds host.old.permit }
 {
     let (rt, alloc) = (host.rt, host.alloc());
     let lock = lock(rt, alloc, dir, cause)?;
@@ -96,7 +96,7 @@ pub(crate) fn tell_dead<H: Runtime + Threads + Wait + Sync>(
 where
     H::File: Send + Lockable,
     H::Dir: Send,
-    requires permit { IsUnused host.old.permit }
+    requires permit { AllowsRounds host.old.permit }
 {
     let (rt, alloc, build) = (host.rt, host.alloc(), &dead.build);
     let passed = match &build.input {

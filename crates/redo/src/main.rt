@@ -4,7 +4,7 @@
 #![tactic(auto)]
 
 ghost use Rattle.std.specs.Prelude.{◌≡◌, false};
-ghost use Rattle.redo_core.specs.Permits.{IsUnused};
+ghost use Rattle.redo_run.specs.Directories.{AllowsRounds};
 
 mod after;
 mod behind;
@@ -36,7 +36,7 @@ use redo_core::permit::Permit;
 use redo_dir::{DirLock, LockFault, Lockable, SystemDir, lock_dir};
 use redo_line::{Action, BuildOptions, Call, Dead, Input, Voice, read_call};
 use redo_path::Path;
-use redo_run::{Cause, Host, Said, requested, whichdo_bundle, whichdo_dir};
+use redo_run::{Cause, Host, ROUNDS, Said, requested, whichdo_bundle, whichdo_dir};
 use status::Fault;
 use std::alloc::{AllocError, Global};
 use std::io;
@@ -63,7 +63,7 @@ fn main(rt: HostRuntime) -> ExitCode {
     let progress = Progress::new(&rt, voice, is_timed(&action, voice));
     let mut host = Host {
         rt: &rt,
-        permit: Permit::new(&rt, alloc),
+        permit: Permit::new(&rt, alloc, ROUNDS),
         observer: &progress,
     };
     match run(&mut host, &action, voice, &mut cause) {
@@ -127,7 +127,7 @@ fn run<H: Runtime + Threads + Wait + Sync>(
 where
     H::File: Send + Lockable,
     H::Dir: Send,
-    requires permit { IsUnused host.old.permit }
+    requires permit { AllowsRounds host.old.permit }
 {
     let (rt, alloc) = (host.rt, host.alloc());
     match action {

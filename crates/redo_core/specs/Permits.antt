@@ -1,10 +1,10 @@
--- What contracts see of a permit: whether it is used.
-use Rattle.std.specs.Prelude.{◌≡◌, Bool, true, false}
+-- What contracts see of a permit: how many boards may still be opened by it.
+use Rattle.std.specs.Prelude.{◌≡◌, ◌+◌, ◌≤◌, ℕ}
 
 -- a board may be opened by it
-abbrev pub IsUnused : Bool → Type 0
-IsUnused permit = permit ≡ false
+abbrev pub IsUnused : ℕ → Type 0
+IsUnused permit = 1 ≤ permit
 
--- no board may be opened by it any more
-abbrev pub IsUsed : Bool → Type 0
-IsUsed permit = permit ≡ true
+-- a board was opened by it
+abbrev pub Uses : ℕ → ℕ → Type 0
+Uses old new = new + 1 ≡ old

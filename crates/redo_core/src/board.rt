@@ -12,7 +12,7 @@ ghost use Rattle.redo_build.specs.Outcomes.{IsTooMany};
 ghost use Rattle.redo_build.specs.Schedule.{Event, IsOutAt, IsOpen};
 ghost use Rattle.redo_build.specs.Schedule.Event.{Take, Hand_in};
 ghost use Rattle.redo_core.specs.Faults.{Refused};
-ghost use Rattle.redo_core.specs.Permits.{IsUnused, IsUsed};
+ghost use Rattle.redo_core.specs.Permits.{IsUnused, Uses};
 ghost use Rattle.redo_build.specs.TakesLeft.{takes_left};
 ghost use Rattle.redo_build.specs.Theorems.{IsPartOfBuild, ShowsBuild};
 
@@ -124,7 +124,7 @@ impl Board {
         limits: Limits,
     ) -> Result<Board, OpenFault>
         requires permit { IsUnused permit.old }
-        ensures used { OnOk result (IsUsed permit.new) }
+        ensures used { OnOk result (Uses permit.old permit.new) }
         ensures ok { IfOk result (IsOpened (arc_value tree) request.now limits) }
         ensures within { IfOk result (λ b. length b.state.entries ≤ limits.targets) }
         ensures part { IfOk result (λ b. IsPartOfBuild (rules_on b) (request_on b) (limit_on b) b.state) }
@@ -145,7 +145,7 @@ impl Board {
         limits: Limits,
     ) -> Result<Board, Stop>
         requires permit { IsUnused permit.old }
-        ensures used { IsUsed permit.new }
+        ensures used { Uses permit.old permit.new }
         ensures ok { IfOk result (IsOpened past.tree request.now limits) }
         ensures within { IfOk result (λ b. length b.state.entries ≤ limits.targets) }
         ensures part { IfOk result (λ b. IsPartOfBuild (rules_on b) (request_on b) (limit_on b) b.state) }
@@ -153,7 +153,7 @@ impl Board {
         ensures left { IfOk result (λ b. takes_left (limit_on b) b.state ≤ limit_on b * limit_on b) }
         ensures too_many { result ≡ Err Stop.TooMany → NeedsTooMany past.tree request.now limits }
     {
-        permit.use_up();
+        permit.use_once();
         let alloc = permit.alloc();
         past.is_past();
         let given = Given::new(alloc, past, request, limits)?;

@@ -1,50 +1,48 @@
 //! What it takes to open a board.
-ghost use Rattle.redo_core.specs.Permits.{IsUnused, IsUsed};
+ghost use Rattle.std.specs.Prelude.{◌≡◌};
+ghost use Rattle.redo_core.specs.Permits.{IsUnused, Uses};
 
 use std::alloc::Global;
 use std::marker::Model;
 
-/// Allows one board to be opened, in this memory. A board begins each script once; so does whatever is handed one
-/// permit.
+/// Allows so many boards to be opened, in this memory. A board begins each script once; so does whatever is handed a
+/// permit for one.
 ///
 /// Only who has the program's runtime can make one: `main`, or a test. A function that is generic in its runtime can't,
-/// and no permit can be copied. In a contract it is whether it is used.
+/// and no permit can be copied. In a contract it is how many boards may still be opened.
 #[derive(Drop)]
 pub struct Permit {
     alloc: Global,
     /// Contracts alone read it.
-    is_used: bool,
+    boards: u64,
 }
 
 impl Model for Permit {
-    ghost use Rattle.std.specs.Prelude.{Bool};
+    ghost use Rattle.std.specs.Prelude.{ℕ};
 
-    ghost Value = { Bool };
+    ghost Value = { ℕ };
 
-    ghost view = { λ p. p.is_used };
+    ghost view = { λ p. p.boards };
 }
 
 impl Permit {
-    /// A permit for one board.
-    pub fn new(_rt: &HostRuntime, alloc: Global) -> Permit
-        ensures { IsUnused result }
+    /// A permit for so many boards.
+    pub fn new(_rt: &HostRuntime, alloc: Global, boards: u64) -> Permit
+        ensures { result ≡ boards }
     {
-        Permit {
-            alloc,
-            is_used: false,
-        }
+        Permit { alloc, boards }
     }
 
-    /// The memory of the board, and of all that goes with it.
+    /// The memory of the boards, and of all that goes with them.
     pub fn alloc(&self) -> Global {
         self.alloc
     }
 
-    /// Uses the permit up.
-    pub(crate) fn use_up(&mut self)
+    /// Allows a board fewer.
+    pub(crate) fn use_once(&mut self)
         requires { IsUnused self.old }
-        ensures { IsUsed self.new }
+        ensures { Uses self.old self.new }
     {
-        self.is_used = true;
+        self.boards -= 1;
     }
 }

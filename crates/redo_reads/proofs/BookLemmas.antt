@@ -1,5 +1,5 @@
 -- A build with a book looks at what the book names and at what its report names.
-use Rattle.std.proofs.Common.{◌≡◌, ℕ, ◌≤◌, true, false, inl, Option, Some, None}
+use Rattle.std.proofs.Common.{Bool, ◌≡◌, ℕ, ◌≤◌, true, false, inl, Option, Some, None}
 use Rattle.std.proofs.Common.{List, flat_map, arith, refl, ap, subst, ◌∙◌}
 use Rattle.redo_tree.specs.Tree.{file_at}
 use Rattle.redo_which.specs.Rule.{is_rule}
@@ -25,7 +25,7 @@ use Rattle.redo_reads.proofs.RunReadLemmas.{AreRead, same_everywhere}
 use Rattle.redo_reads.proofs.SearchLemmas.{files_alike, found_alike}
 use Rattle.redo_reads.proofs.TargetLemmas.{RunsBegin, progress_grows, progress_reads}
 
-module _ (runs_begin : RunsBegin) (given : GivenView) (now : PastView) (paths : List (List ℕ)) (report : Report)
+module _ (runs_begin : RunsBegin) (given : GivenView) (now : PastView) (paths : List ℕ → Bool) (report : Report)
     (book_same : now.book ≡ given.past.book) (alike : AreNamedAlike given.past.sources now.sources)
     (agree : AgreeOn paths given.past.sources now.sources)
     (named : (p : List ℕ) → IsAmong (flat_map named_by given.past.book) p →

@@ -73,7 +73,7 @@ module _ (one two : Tree) (rows : List Row) where
       record { target = row.path; state = state_of (file_in row.outcome); entries = entries })
       (noted_same (arc_value row.deps) read)
 
-module _ (paths : List (List ℕ)) (past now : PastView) (book_same : now.book ≡ past.book)
+module _ (paths : List ℕ → Bool) (past now : PastView) (book_same : now.book ≡ past.book)
     (alike : AreNamedAlike past.sources now.sources) (agree : AgreeOn paths past.sources now.sources)
     (named : (p : List ℕ) → IsAmong (flat_map named_by past.book) p → file_at now.tree p ≡ file_at past.tree p)
     (report : Report) (covered : IsCovered paths past.sources report) where

@@ -68,7 +68,7 @@ aside_same one two book same =
     ap (λ (rs : List Record). book_path ∷ targets_of rs) (generated_same one two book (λ p m. same p (inr m)))
 
 -- all that the book names is the same in both trees
-pub named_same : (paths : List (List ℕ)) (one two : Tree) (book : List Record) → AreNamedAlike one two →
+pub named_same : (paths : List ℕ → Bool) (one two : Tree) (book : List Record) → AreNamedAlike one two →
     AgreeOn paths one two → HasBook paths one book → (p : List ℕ) → IsAmong (named_in book) p →
     file_at two p ≡ file_at one p
 named_same paths one two book alike agree has p m = agreed_file paths one two alike agree p (has p m)

@@ -50,8 +50,8 @@ abbrev rules : (source unread : List ℕ) → Rules
 rules source unread = rules_of (tree source unread) limits
 
 -- the paths of what a's script has read
-abbrev read : List (List ℕ)
-read = codes "a.do" ∷ codes "s" ∷ []
+abbrev read : List ℕ → Bool
+read p = bytes_eq p (codes "a.do") || (bytes_eq p (codes "s") || false)
 
 -- the trees have the same names, whatever is in them
 pub named_alike : (source other unread changed : List ℕ) → AreNamedAlike (tree source unread) (tree other changed)
@@ -72,11 +72,17 @@ named_alike source other unread changed p = by_places _ _ _ _
 
 -- they agree on what was read, whatever is in the file that nobody reads
 pub agree : (source unread changed : List ℕ) → AgreeOn read (tree source unread) (tree source changed)
-agree source unread changed p (inl here) =
-    subst (λ (x : List ℕ). file_at (tree source changed) x ≡ file_at (tree source unread) x) here refl
-agree source unread changed p (inr (inl here)) =
-    subst (λ (x : List ℕ). file_at (tree source changed) x ≡ file_at (tree source unread) x) here refl
-agree source unread changed p (inr (inr none)) = absurd none
+agree source unread changed p h = elim (or_cases (bytes_eq p (codes "a.do")) (bytes_eq p (codes "s") || false) h) [
+  | inl first ↦ same (sym ((bytes_eq-Decides p (codes "a.do")).0 first)) refl
+  | inr other ↦ elim (or_cases (bytes_eq p (codes "s")) false other) [
+    | inl second ↦ same (sym ((bytes_eq-Decides p (codes "s")).0 second)) refl
+    | inr none ↦ absurd cc
+  ]
+]
+  where
+    same : {x : List ℕ} → x ≡ p → file_at (tree source changed) x ≡ file_at (tree source unread) x →
+        file_at (tree source changed) p ≡ file_at (tree source unread) p
+    same here e = subst (λ (y : List ℕ). file_at (tree source changed) y ≡ file_at (tree source unread) y) here e
 
 -- a's record: its .do file and the source
 abbrev entries : List Dep
@@ -84,17 +90,11 @@ entries = record { kind = Change; path = codes "a.do" } ∷ record { kind = Chan
 
 -- the paths have each file in it
 covered : (source unread : List ℕ) → HasReads read (tree source unread) entries
-covered source unread p h there = elim (or_cases (bytes_eq p (codes "a.do")) (bytes_eq p (codes "s") || false) h) [
-  | inl first ↦ inl (sym ((bytes_eq-Decides p (codes "a.do")).0 first))
-  | inr other ↦ elim (or_cases (bytes_eq p (codes "s")) false other) [
-    | inl second ↦ inr (inl (sym ((bytes_eq-Decides p (codes "s")).0 second)))
-    | inr none ↦ absurd cc
-  ]
-]
+covered source unread p h there = h
 
 -- without the source they haven't
-uncovered : (source unread : List ℕ) → HasReads (codes "a.do" ∷ []) (tree source unread) entries → ⊥
-uncovered source unread has = elim (has (codes "s") refl refl) [ inl here ↦ cc | inr none ↦ none ]
+uncovered : (source unread : List ℕ) → HasReads (λ p. bytes_eq p (codes "a.do")) (tree source unread) entries → ⊥
+uncovered source unread has = absurd (let no : false ≡ true = has (codes "s") refl refl in cc)
 
 -- Of two sources, whatever is in the file that nobody reads
 

@@ -139,7 +139,7 @@ module _ (r q : Rules) (r_lawful : AreLawful r) (q_lawful : AreLawful q) (reques
 -- What a covered report has read
 
 -- the record of a path that has a row is covered
-pub record_covered : (r : Rules) (limit : ℕ) (paths : List (List ℕ)) (tree : Tree) (rows : List Row) →
+pub record_covered : (r : Rules) (limit : ℕ) (paths : List ℕ → Bool) (tree : Tree) (rows : List Row) →
     All (TellsOf r limit) rows → All (λ row. HasReads paths tree (arc_value row.deps)) rows → (p : List ℕ) →
     IsAmong (map (λ row. row.path) rows) p → HasReads paths tree (deps_of r limit p)
 record_covered r limit paths tree [] told covered p m = absurd m
@@ -158,8 +158,8 @@ nothing_there None e = refl
 nothing_there (Some bytes) e = absurd cc
 
 -- a path has the same file in both trees if they agree on it where it is a file
-pub agreed_file : (paths : List (List ℕ)) (one two : Tree) → AreNamedAlike one two → AgreeOn paths one two →
-    (p : List ℕ) → (is_file one p ≡ true → IsAmong paths p) → file_at two p ≡ file_at one p
+pub agreed_file : (paths : List ℕ → Bool) (one two : Tree) → AreNamedAlike one two → AgreeOn paths one two →
+    (p : List ℕ) → (is_file one p ≡ true → paths p ≡ true) → file_at two p ≡ file_at one p
 agreed_file paths one two alike agree p has = elim (cases_Bool (is_file one p)) [
   | inl there ↦ agree p (has there)
   | inr gone ↦
@@ -167,12 +167,12 @@ agreed_file paths one two alike agree p has = elim (cases_Bool (is_file one p)) 
 ]
 
 -- what is covered and agreed on is the same in both
-pub covered_read : (paths : List (List ℕ)) (one two : Tree) → AreNamedAlike one two → AgreeOn paths one two →
+pub covered_read : (paths : List ℕ → Bool) (one two : Tree) → AreNamedAlike one two → AgreeOn paths one two →
     (deps : List Dep) → HasReads paths one deps → AreRead (file_at one) (file_at two) deps
 covered_read paths one two alike agree deps has p h = agreed_file paths one two alike agree p (has p h)
 
 module _ (runs_begin : RunsBegin) (one two : Tree) (limits : LimitsView) (request : List (List ℕ)) (limit : ℕ)
-    (paths : List (List ℕ)) (report : Report) (alike : AreNamedAlike one two) (agree : AgreeOn paths one two)
+    (paths : List ℕ → Bool) (report : Report) (alike : AreNamedAlike one two) (agree : AgreeOn paths one two)
     (is : IsReport (rules_of one limits) request limit report) (covered : IsCovered paths one report) where
   abbrev r : Rules
   r = rules_of one limits

@@ -1,6 +1,6 @@
 -- Two trees with the same names that agree on their book, on what that names and on what a report names have that
 -- report.
-use Rattle.std.proofs.Common.{◌≡◌, ℕ, inl, inr, Option}
+use Rattle.std.proofs.Common.{Bool, true, ◌≡◌, ℕ, inl, inr, Option}
 use Rattle.std.proofs.Common.{List, All, refl, sym, ap, subst, subst₂, ◌∙◌}
 use Rattle.std.specs.Arc.{arc_value}
 use Rattle.redo_tree.specs.Tree.{IsTree, Tree, file_at, without}
@@ -19,7 +19,7 @@ use Rattle.redo_reads.proofs.TargetLemmas.{RunsBegin}
 use Rattle.redo_reads.proofs.BookLemmas.{booked_report}
 use Rattle.redo_reads.proofs.NewBookLemmas.{same_result}
 
-module _ (runs_begin : RunsBegin) (two : Tree) (given : GivenView) (paths : List (List ℕ)) (result : Report)
+module _ (runs_begin : RunsBegin) (two : Tree) (given : GivenView) (paths : List ℕ → Bool) (result : Report)
     (is_past : IsPast given.past) (is_one : IsTree given.past.tree) (is_two : IsTree two)
     (alike : AreNamedAlike given.past.tree two) (agree : AgreeOn paths given.past.tree two)
     (has : HasBook paths given.past.tree given.past.book) (is : IsResult given result)
@@ -94,7 +94,7 @@ module _ (runs_begin : RunsBegin) (two : Tree) (given : GivenView) (paths : List
 
 -- the same, of a tree that the build is given
 pub given_result : RunsBegin → (tree other : Tree) (request : List (List ℕ)) (limits : LimitsView) (given : GivenView)
-    (paths : List (List ℕ)) (result : Report) → IsTree tree → IsTree other → IsGiven tree request limits given →
+    (paths : List ℕ → Bool) (result : Report) → IsTree tree → IsTree other → IsGiven tree request limits given →
     AreNamedAlike tree other → AgreeOn paths tree other → HasBook paths tree given.past.book → IsResult given result →
     IsCovered paths given.past.sources result → IsResultOn other request limits result
 given_result runs_begin tree other request limits given paths result is_tree is_other of alike agree has is covered =
@@ -108,7 +108,7 @@ given_result runs_begin tree other request limits given paths result is_tree is_
     there
 
 -- a book that is refused
-pub same_refusal : (tree other : Tree) (paths : List (List ℕ)) (n : ℕ) → AgreeOn paths tree other →
-    IsAmong paths book_path →
+pub same_refusal : (tree other : Tree) (paths : List ℕ → Bool) (n : ℕ) → AgreeOn paths tree other →
+    paths book_path ≡ true →
     IsRefused tree n → IsRefused other n
 same_refusal tree other paths n agree m refused = (refused.0, agree book_path m ∙ refused.1, refused.2)

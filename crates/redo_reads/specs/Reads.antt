@@ -1,5 +1,5 @@
 -- What a report rests on: the names of a tree, and the contents of the files that it names.
-use Rattle.std.specs.Prelude.{◌≡◌, ℕ, true, List, [], ◌∷◌, All, flat_map}
+use Rattle.std.specs.Prelude.{◌≡◌, ℕ, Bool, true, List, [], ◌∷◌, All, flat_map}
 use Rattle.std.specs.Arc.{arc_value}
 use Rattle.redo_tree.specs.Tree.{Tree, file_at, kind_of, node_at}
 use Rattle.redo_which.specs.Candidates.{book_path}
@@ -18,16 +18,16 @@ abbrev pub AreNamedAlike : Tree → Tree → Type 0
 AreNamedAlike one two = (p : List ℕ) → kind_of (node_at two p) ≡ kind_of (node_at one p)
 
 -- two trees agree on these paths: what file is there, if any, has the same bytes in both
-abbrev pub AgreeOn : List (List ℕ) → Tree → Tree → Type 0
-AgreeOn paths one two = (p : List ℕ) → IsAmong paths p → file_at two p ≡ file_at one p
+abbrev pub AgreeOn : (List ℕ → Bool) → Tree → Tree → Type 0
+AgreeOn paths one two = (p : List ℕ) → paths p ≡ true → file_at two p ≡ file_at one p
 
 -- these paths have each file of the tree that a record has under `change`: the .do file of its target, and the
 -- sources that the script declared
-abbrev pub HasReads : List (List ℕ) → Tree → List Dep → Type 0
-HasReads paths tree deps = (p : List ℕ) → is_entered deps Change p ≡ true → is_file tree p ≡ true → IsAmong paths p
+abbrev pub HasReads : (List ℕ → Bool) → Tree → List Dep → Type 0
+HasReads paths tree deps = (p : List ℕ) → is_entered deps Change p ≡ true → is_file tree p ≡ true → paths p ≡ true
 
 -- a report is covered by these paths: they have what each of its records has
-abbrev pub IsCovered : List (List ℕ) → Tree → Report → Type 0
+abbrev pub IsCovered : (List ℕ → Bool) → Tree → Report → Type 0
 IsCovered paths tree report = All (λ row. HasReads paths tree (arc_value row.deps)) report.rows.items
 
 -- Books
@@ -47,5 +47,5 @@ abbrev pub named_in : List Record → List (List ℕ)
 named_in book = book_path ∷ flat_map named_by book
 
 -- these paths have each file of the tree that the book names, and the book itself
-abbrev pub HasBook : List (List ℕ) → Tree → List Record → Type 0
-HasBook paths tree book = (p : List ℕ) → IsAmong (named_in book) p → is_file tree p ≡ true → IsAmong paths p
+abbrev pub HasBook : (List ℕ → Bool) → Tree → List Record → Type 0
+HasBook paths tree book = (p : List ℕ) → IsAmong (named_in book) p → is_file tree p ≡ true → paths p ≡ true

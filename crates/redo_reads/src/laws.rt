@@ -1,6 +1,5 @@
 //! Laws of what a report rests on. The functions do nothing: each contract is a law.
-ghost use Rattle.std.specs.Prelude.{ℕ, List};
-ghost use Rattle.redo_record.specs.Paths.{IsAmong};
+ghost use Rattle.std.specs.Prelude.{◌≡◌, ℕ, Bool, List, true};
 ghost use Rattle.redo_report.specs.Reports.{IsReport};
 ghost use Rattle.redo_report.specs.declared.report.Report.{Report};
 ghost use Rattle.redo_rules.specs.Build.{GivenView, rules_of};
@@ -16,7 +15,7 @@ use redo_step::more_answers;
 /// names that agrees on the .do files of its targets and on the sources that they declared. That holds also where a
 /// script failed, and of cyclic targets.
 pub fn reports_rest_on_what_they_name()
-    ensures { (one two : Tree) (limits : LimitsView) (request : List (List ℕ)) (limit : ℕ) (paths : List (List ℕ))
+    ensures { (one two : Tree) (limits : LimitsView) (request : List (List ℕ)) (limit : ℕ) (paths : List ℕ → Bool)
         (report : Report) → AreNamedAlike one two → AgreeOn paths one two →
         IsReport (rules_of one limits) request limit report → IsCovered paths one report →
         IsReport (rules_of two limits) request limit report }
@@ -29,11 +28,11 @@ pub fn reports_rest_on_what_they_name()
 /// it is so for the same line.
 pub fn results_rest_on_what_they_name()
     ensures result { (one two : Tree) (request : List (List ℕ)) (limits : LimitsView) (given : GivenView)
-        (paths : List (List ℕ)) (result : Report) → IsTree one → IsTree two → IsGiven one request limits given →
+        (paths : List ℕ → Bool) (result : Report) → IsTree one → IsTree two → IsGiven one request limits given →
         AreNamedAlike one two → AgreeOn paths one two → HasBook paths one given.past.book →
         IsResult given result → IsCovered paths given.past.sources result → IsResultOn two request limits result }
-    ensures refused { (one two : Tree) (paths : List (List ℕ)) (n : ℕ) → AgreeOn paths one two →
-        IsAmong paths book_path → IsRefused one n → IsRefused two n }
+    ensures refused { (one two : Tree) (paths : List ℕ → Bool) (n : ℕ) → AgreeOn paths one two →
+        paths book_path ≡ true → IsRefused one n → IsRefused two n }
 {
     more_answers();
 }

@@ -1,6 +1,6 @@
 -- The candidates of a target go by the paths of a tree's files alone.
 use Rattle.std.proofs.Common.{◌≡◌, ℕ, Bool, List, Option, not, sym, ap, ap₂, subst, ◌∙◌}
-use Rattle.std.specs.Prelude.{◌↔◌, IsSome, IsTrue, find, is_some, map, option_map, take_while}
+use Rattle.std.specs.Prelude.{find, is_some, map, option_map, take_while}
 use Rattle.std.specs.Io.KnownBytes.{Appends}
 use Rattle.redo_tree.specs.Tree.{Tree}
 use Rattle.redo_which.specs.Candidates.{Place, candidates_of}

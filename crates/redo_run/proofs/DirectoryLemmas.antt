@@ -1,17 +1,34 @@
 -- What a run over a directory comes to, step by step.
-use Rattle.std.proofs.Common.{ℕ, List, inl, inr, refl, Option}
+use Rattle.std.proofs.Common.{◌≡◌, ◌∙◌, ℕ, Bool, true, List, [], ◌∷◌, inl, inr, refl, sym, ap, subst, Option, Some, None, ◌⊎◌}
+use Rattle.std.specs.Prelude.{IfErr, IfOk, MatchOption, Result, Ok, Err, option_and_then, option_map}
+use Rattle.std.specs.Arc.{arc_value}
 use Rattle.std.specs.declared.io.ErrorKind.{ErrorKind}
-use Rattle.redo_dir.specs.Loaded.{IsLoaded, Leads, Looks, Reads}
+use Rattle.redo_dir.specs.Loaded.{IsLoaded, Leads, Looks, ReadIf, Reads, wants}
+use Rattle.redo_dir.specs.declared.contents.Wanted.{Wanted}
+use Rattle.redo_dir.proofs.LoadLemmas.{whole}
 use Rattle.redo_dir.specs.Stored.{Step}
-use Rattle.redo_mend.specs.Mended.{MendsTo}
-use Rattle.redo_tree.specs.Tree.{Tree}
-use Rattle.redo_run.specs.Directories.{FallsInPreview, IsFaultOf, IsUnbuilt, IsUnmended, IsUnread, Ran, to_build}
+use Rattle.redo_mend.specs.Mended.{IsPassedOver, IsRecoveredTree, MendsTo}
+use Rattle.redo_past.specs.Past.{IsPast, PastView}
+use Rattle.redo_path.proofs.ApartLemmas.{apart}
+use Rattle.redo_reads.specs.Reads.{AgreeOn, AreNamedAlike, HasBook, IsCovered}
+use Rattle.redo_report.specs.declared.report.Report.{Report}
+use Rattle.redo_tree.specs.Tree.{Directory, File, IsTree, Node, Tree, bytes_of, file_at, kind_of, node_at, without}
+use Rattle.redo_tree.proofs.KeptLemmas.{one_sorted}
+use Rattle.redo_which.specs.Candidates.{journal_path}
+use Rattle.redo_run.specs.Directories.{Decides, FallsInPreview, IsBuilt, IsFaultOf, IsUnread, Ran, steps_of}
+use Rattle.redo_run.specs.Directories.{to_build}
+use Rattle.redo_run.specs.Reading.{HasPlaces, HasRead}
 use Rattle.redo_run.specs.Storing.{clearing, storing, to_store}
-use Rattle.redo_run.specs.inside.Foreseen.{IsUnforeseen}
+use Rattle.redo_run.specs.inside.Foreseen.{IsCoveredBy, IsDecided, IsForeseen, IsLoadedAnd, IsUnforeseen, IsUnforeseenOver}
+use Rattle.redo_run.specs.inside.Foreseen.{IsUnloadedOr}
 use Rattle.redo_run.specs.inside.Storing.{IsPart}
 use Rattle.redo_run.specs.declared.dir_fault.RunDirFault.{RunDirFault}
 use Rattle.redo_run.specs.declared.dir_fault.RunDirFault.TheVariants.{Load, Book, TooMany, Store, Journal, Left, Memory}
+use Rattle.redo_run.specs.declared.exit.Exit.{Exit}
+use Rattle.redo_run.specs.declared.foreseen.Foreseen.{Foreseen}
 use Rattle.redo_run.specs.declared.options.Options.{Options}
+
+-- ---- faults
 
 -- what each fault of a directory's build says
 module _ (lists : List ℕ → List (Option (List ℕ)) → Type 0) (looks : Looks) (reads : Reads) (refuses : List ℕ → ErrorKind → Type 0) (options : Options) where
@@ -20,16 +37,24 @@ module _ (lists : List ℕ → List (Option (List ℕ)) → Type 0) (looks : Loo
   unread Memory h = tt
   unread _ h = absurd h
 
-  pub unmended : (loaded : Tree) (passed : ℕ) (fault : RunDirFault) → IsLoaded lists (Leads looks reads) loaded passed → IsUnmended loaded fault → IsUnforeseen lists looks reads refuses options fault
-  unmended loaded passed (Book n) l h = record { loaded = loaded; passed = passed; is_loaded = l; why = inl h }
-  unmended loaded passed Memory l h = tt
-  unmended loaded passed _ l h = absurd h
+  unforeseen_over : (loaded : Tree) (passed : ℕ) (fault : RunDirFault) → IsLoaded lists (Leads looks reads) loaded passed → IsUnforeseenOver options loaded fault → IsUnforeseen lists looks reads refuses options fault
+  unforeseen_over loaded passed (Book n) l h = record { loaded = loaded; passed = passed; is_loaded = l; why = h }
+  unforeseen_over loaded passed TooMany l h = record { loaded = loaded; passed = passed; is_loaded = l; why = h }
+  unforeseen_over loaded passed Memory l h = tt
+  unforeseen_over loaded passed _ l (inl h) = absurd h
+  unforeseen_over loaded passed _ l (inr h) = absurd h.2
 
-  pub unbuilt : (loaded mended : Tree) (passed : ℕ) (fault : RunDirFault) → IsLoaded lists (Leads looks reads) loaded passed → MendsTo loaded mended → IsUnbuilt (to_build options mended) options fault → IsUnforeseen lists looks reads refuses options fault
-  unbuilt loaded mended passed (Book n) l m h = record { loaded = loaded; passed = passed; is_loaded = l; why = inr (mended, m, h) }
-  unbuilt loaded mended passed TooMany l m h = record { loaded = loaded; passed = passed; is_loaded = l; why = inr (mended, m, h) }
-  unbuilt loaded mended passed Memory l m h = tt
-  unbuilt loaded mended passed _ l m h = absurd h
+  -- where all files were read
+  pub unforeseen_all : (wanted : Wanted) (fault : RunDirFault) → wanted.all ≡ true → IsUnloadedOr lists looks (wants wanted) reads refuses options fault → IsUnforeseen lists looks reads refuses options fault
+  unforeseen_all wanted fault all (inl h) = unread fault h
+  unforeseen_all wanted fault all (inr (loaded, passed, l, why)) =
+      unforeseen_over loaded passed fault (whole lists looks reads refuses wanted all loaded passed l) why
+
+  -- where some were, and it is no fault of the tree
+  pub unread_part : (paths : List ℕ → Bool) → IsUnloadedOr lists looks paths reads refuses options Load → IsUnread lists looks reads refuses Load
+  unread_part paths (inl h) = h
+  unread_part paths (inr (loaded, passed, l, inl why)) = absurd why
+  unread_part paths (inr (loaded, passed, l, inr why)) = absurd why.2
 
   -- a run that stores nothing tells the same
   pub in_preview : (fault : RunDirFault) → IsUnforeseen lists looks reads refuses options fault → FallsInPreview lists looks reads refuses options fault
@@ -55,3 +80,121 @@ module _ (lists : List ℕ → List (Option (List ℕ)) → Type 0) (looks : Loo
   undone_fault r after Left h = (r, h.0, h.1, h.2)
   undone_fault r after Memory h = inr (r, h.0, h.1)
   undone_fault r after _ h = absurd h
+
+-- ---- what is decided by what was read
+
+-- what is at a path is known by its kind and its file
+one_node : (m n : Option Node) → kind_of m ≡ kind_of n → option_and_then bytes_of m ≡ option_and_then bytes_of n → m ≡ n
+one_node None None k f = refl
+one_node None (Some Directory) k f = apart cc
+one_node None (Some (File bytes)) k f = apart cc
+one_node (Some Directory) None k f = apart cc
+one_node (Some Directory) (Some Directory) k f = refl
+one_node (Some Directory) (Some (File bytes)) k f = apart cc
+one_node (Some (File bytes)) None k f = apart cc
+one_node (Some (File bytes)) (Some Directory) k f = apart cc
+one_node (Some (File bytes)) (Some (File others)) k f = let same : bytes ≡ others = cc in ap (λ b. Some (File b)) same
+
+-- trees with the same names and the same files are one
+same_tree : (one two : Tree) → IsTree one → IsTree two → AreNamedAlike one two → ((p : List ℕ) → file_at two p ≡ file_at one p) → two ≡ one
+same_tree one two is_one is_two alike same = one_sorted two one is_two.sorted is_one.sorted (λ p. one_node (node_at two p) (node_at one p) (alike p) (same p))
+
+module _ (lists : List ℕ → List (Option (List ℕ)) → Type 0) (looks : Looks) (reads : Reads) (options : Options) (f : Foreseen) where
+  -- all files decide
+  pub decided_all : (wanted : Wanted) → wanted.all ≡ true → IsLoadedAnd lists looks (ReadIf (wants wanted) reads) options f → IsDecided lists looks reads options f
+  decided_all wanted all (loaded, l, is) =
+      let report = f.run.report in let book = f.run.book in let exit = f.run.exit in
+      let Is : Tree → Type 0 = λ tree. (mended : Tree) × MendsTo tree mended × IsBuilt (to_build options mended) options report book exit × (steps_of tree mended report book ≡ steps_of loaded (arc_value f.mended) report book) in
+      record {
+        paths = wants wanted;
+        loaded = loaded;
+        is_loaded = l;
+        foreseen = is;
+        decides = λ tree is_tree alike agree.
+            let same = same_tree loaded tree is.is_tree is_tree alike (λ p. agree p (rw all refl)) in
+            subst Is (sym same) (arc_value f.mended, is.mends, is.built, refl);
+      }
+
+-- what the laws say
+abbrev Mends : Type 0
+Mends = (one two : Tree) → AreNamedAlike one two → file_at one journal_path ≡ None → MendsTo two two
+
+abbrev Builds : Type 0
+Builds = (one two : Tree) (paths : List ℕ → Bool) (options : Options) (report : Report) (book : List ℕ) (exit : Exit) →
+    IsTree one → IsTree two → AreNamedAlike one two → AgreeOn paths one two →
+    HasRead paths one options report book exit → IsBuilt (to_build options two) options report book exit
+
+abbrev Steps : Type 0
+Steps = (one two : Tree) (paths : List ℕ → Bool) (options : Options) (report : Report) (book : List ℕ) (exit : Exit) →
+    AreNamedAlike one two → AgreeOn paths one two → file_at one journal_path ≡ None →
+    HasRead paths one options report book exit → steps_of two two report book ≡ steps_of one one report book
+
+module _ (mends : Mends) (builds : Builds) (steps : Steps) (one_past : (past other : PastView) → IsPast past → IsPast other → past.tree ≡ other.tree → past ≡ other) (options : Options) (paths : List ℕ → Bool) (f : Foreseen) (loaded : Tree) (passed : ℕ) (is : IsForeseen options loaded passed f) (c : IsCoveredBy paths f) where
+  none : file_at loaded journal_path ≡ None
+  none = sym is.journal ∙ ap (option_map (λ left. left.journal)) c.journal
+
+  -- it went on with the tree as it was
+  same : arc_value f.mended ≡ loaded
+  same = subst (λ (o : Option (List ℕ)). MatchOption o (arc_value f.mended ≡ loaded) (λ text. IsRecoveredTree loaded text (arc_value f.mended) ⊎ (IsPassedOver loaded text × (arc_value f.mended ≡ without loaded (journal_path ∷ []))))) none is.mends
+
+  built : IsBuilt (to_build options loaded) options f.run.report f.run.book f.run.exit
+  built = subst (λ (t : Tree). IsBuilt (to_build options t) options f.run.report f.run.book f.run.exit) same is.built
+
+  past_is : f.run.past.tree ≡ to_build options loaded
+  past_is = is.past.of_tree ∙ ap (to_build options) same
+
+  past : built.given.past ≡ f.run.past
+  past = one_past built.given.past f.run.past built.is_given.of_tree.is_past is.past.is_past (built.is_given.of_tree.of_tree ∙ sym past_is)
+
+  read : HasRead paths loaded options f.run.report f.run.book f.run.exit
+  read = record {
+    built = built;
+    has_book = subst (λ (q : PastView). HasBook paths (to_build options loaded) q.book) (sym past) (subst (λ (t : Tree). HasBook paths t f.run.past.book) past_is c.book);
+    has_rows = subst (λ (q : PastView). IsCovered paths q.sources f.run.report) (sym past) c.rows;
+    has_places = subst (λ (t : Tree). HasPlaces paths t f.run.report) same c.places;
+  }
+
+  covered_decides : Decides paths options loaded f.run.report f.run.book f.run.exit (steps_of loaded (arc_value f.mended) f.run.report f.run.book)
+  covered_decides tree is_tree alike agree = (
+    tree,
+    mends loaded tree alike none,
+    builds loaded tree paths options f.run.report f.run.book f.run.exit is.is_tree is_tree alike agree read,
+    steps loaded tree paths options f.run.report f.run.book f.run.exit alike agree none read
+        ∙ ap (λ (t : Tree). steps_of loaded t f.run.report f.run.book) (sym same),
+  )
+
+-- the files that were read decide, if they are all that were looked into
+pub decided_part : Mends → Builds → Steps → ((past other : PastView) → IsPast past → IsPast other → past.tree ≡ other.tree → past ≡ other) → (lists : List ℕ → List (Option (List ℕ)) → Type 0) (looks : Looks) (reads : Reads) (options : Options) (f : Foreseen) (paths : List ℕ → Bool) → IsCoveredBy paths f → IsLoadedAnd lists looks (ReadIf paths reads) options f → IsDecided lists looks reads options f
+decided_part mends builds steps one_past lists looks reads options f paths c (loaded, l, is) = record {
+  paths = paths;
+  loaded = loaded;
+  is_loaded = l;
+  foreseen = is;
+  decides = covered_decides mends builds steps one_past options paths f loaded f.run.passed is c;
+}
+
+-- ---- a round
+
+module _ (lists : List ℕ → List (Option (List ℕ)) → Type 0) (looks : Looks) (paths : List ℕ → Bool) (reads : Reads) (refuses : List ℕ → ErrorKind → Type 0) (options : Options) (loaded : Tree) (passed later : ℕ) (same : later ≡ passed) (l : IsLoaded lists (Leads looks (ReadIf paths reads)) loaded passed) where
+  -- what is foreseen of the tree that was loaded
+  pub attempted : (result : Result Foreseen RunDirFault) → IfOk result (IsForeseen options loaded later) → IfOk result (IsLoadedAnd lists looks (ReadIf paths reads) options)
+  attempted (Ok f) is = (
+    loaded,
+    subst (IsLoaded lists (Leads looks (ReadIf paths reads)) loaded) (sym (is.counted ∙ same)) l,
+    subst (λ n. IsForeseen options loaded n f) (sym is.counted) is,
+  )
+  attempted (Err fault) is = tt
+
+  pub not_attempted : (result : Result Foreseen RunDirFault) → IfErr result (IsUnforeseenOver options loaded) → IfErr result (IsUnloadedOr lists looks paths reads refuses options)
+  not_attempted (Ok f) h = tt
+  not_attempted (Err fault) h = inr (loaded, passed, l, h)
+
+-- the last round
+module _ (lists : List ℕ → List (Option (List ℕ)) → Type 0) (looks : Looks) (reads : Reads) (refuses : List ℕ → ErrorKind → Type 0) (options : Options) (wanted : Wanted) (all : wanted.all ≡ true) where
+  pub attempted_all : (result : Result Foreseen RunDirFault) → IfOk result (IsLoadedAnd lists looks (ReadIf (wants wanted) reads) options) → IfOk result (IsDecided lists looks reads options)
+  attempted_all (Ok f) is = decided_all lists looks reads options f wanted all is
+  attempted_all (Err fault) is = tt
+
+  pub not_attempted_all : (result : Result Foreseen RunDirFault) → IfErr result (IsUnloadedOr lists looks (wants wanted) reads refuses options) → IfErr result (IsUnforeseen lists looks reads refuses options)
+  not_attempted_all (Ok f) h = tt
+  not_attempted_all (Err fault) h = unforeseen_all lists looks reads refuses options wanted fault all h

@@ -1,10 +1,12 @@
 pub mod CandidateLemmas
+pub mod CoverageLemmas
 pub mod CrossingLemmas
 pub mod DirectoryLemmas
 pub mod DrivingLemmas
 pub mod ExitLemmas
 pub mod KeepingExamples
 pub mod LedgerLemmas
+pub mod LoadingLemmas
 pub mod OpenedLemmas
 pub mod PoolLemmas
 pub mod ReadingLemmas

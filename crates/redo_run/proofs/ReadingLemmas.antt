@@ -1,5 +1,5 @@
 -- Trees with the same names that agree on what a run looks into: it does the same over both.
-use Rattle.std.proofs.Common.{◌≡◌, ℕ, Bool, true, false, not, inl, inr, Option, Some, None, List, [], ◌∷◌, ◌++◌, map}
+use Rattle.std.proofs.Common.{◌≡◌, ℕ, Bool, false, not, inl, inr, Option, Some, None, List, [], ◌∷◌, ◌++◌, map}
 use Rattle.std.proofs.Common.{if◌then◌else◌, is_some, length, nat_eq, refl, sym, ap, ap₂, subst, ◌∙◌, ◌==◌, ◌⊎◌, true≢false}
 use Rattle.std.specs.Prelude.{All}
 use Rattle.std.specs.Arc.{arc_value}
@@ -58,7 +58,7 @@ same_exit r s limit bound request one two exit is also rows ends =
 
 -- what the laws say
 abbrev Rests : Type 0
-Rests = (one two : Tree) (request : List (List ℕ)) (limits : LimitsView) (given : GivenView) (paths : List (List ℕ))
+Rests = (one two : Tree) (request : List (List ℕ)) (limits : LimitsView) (given : GivenView) (paths : List ℕ → Bool)
     (result : Report) → IsTree one → IsTree two → IsGiven one request limits given → AreNamedAlike one two →
     AgreeOn paths one two → HasBook paths one given.past.book → IsResult given result →
     IsCovered paths given.past.sources result → IsResultOn two request limits result
@@ -71,7 +71,7 @@ Sound = (tree : Tree) (request : List (List ℕ)) (limits : LimitsView) (result 
 abbrev StaysTree : Type 0
 StaysTree = (tree : Tree) (out : List (List ℕ)) → IsTree tree → IsTree (without tree out)
 
-module _ (one two : Tree) (paths : List (List ℕ)) (options : Options) (is_one : IsTree one) (is_two : IsTree two)
+module _ (one two : Tree) (paths : List ℕ → Bool) (options : Options) (is_one : IsTree one) (is_two : IsTree two)
     (alike : AreNamedAlike one two) (agree : AgreeOn paths one two) where
   -- without what is to be taken back they are alike, too
   to_build_alike : AreNamedAlike (to_build options one) (to_build options two)
@@ -92,7 +92,7 @@ to_build_tree stays options tree is = elim (cases_Bool (length options.taken.ite
   | inr some ↦ rw some (stays tree options.taken.items is)
 ]
 
-module _ (rests : Rests) (sound : Sound) (stays : StaysTree) (one two : Tree) (paths : List (List ℕ)) (options : Options)
+module _ (rests : Rests) (sound : Sound) (stays : StaysTree) (one two : Tree) (paths : List ℕ → Bool) (options : Options)
     (report : Report) (book : List ℕ) (exit : Exit) (is_one : IsTree one) (is_two : IsTree two)
     (alike : AreNamedAlike one two) (agree : AgreeOn paths one two) (has : HasRead paths one options report book exit) where
   abbrev built : IsBuilt (to_build options one) options report book exit
@@ -189,7 +189,7 @@ module _ (one two : Tree) (alike : AreNamedAlike one two) where
       same
   if_new_there book (f ∷ fs) same = refl
 
-  pub steps_there : (paths : List (List ℕ)) (report : Report) (book : List ℕ) → AgreeOn paths one two →
+  pub steps_there : (paths : List ℕ → Bool) (report : Report) (book : List ℕ) → AgreeOn paths one two →
       file_at one journal_path ≡ None → HasPlaces paths one report →
       steps_of two two report book ≡ steps_of one one report book
   steps_there paths report book agree none has =

@@ -1,6 +1,6 @@
 -- What a run over a directory comes to. What the directory holds is known to no contract: it has the tree by what it
 -- answered when it was listed, looked at and read.
-use Rattle.std.specs.Prelude.{◌≡◌, ◌↔◌, ◌++◌, ◌⊎◌, ◌+◌, ◌<◌, ◌==◌, suc, Bool, true, false, IsTrue, IsSome, ℕ, List, Option, Result}
+use Rattle.std.specs.Prelude.{◌≡◌, ◌↔◌, ◌++◌, ◌⊎◌, ◌+◌, ◌<◌, ◌≤◌, ◌==◌, suc, Bool, true, false, IsTrue, IsSome, ℕ, List, Option, Result}
 use Rattle.std.specs.Prelude.{Ok, Err, None, if◌then◌else◌, length, take}
 use Rattle.std.specs.Io.KnownBytes.{Appends}
 use Rattle.std.specs.declared.io.ErrorKind.{ErrorKind}
@@ -10,10 +10,11 @@ use Rattle.redo_rules.specs.Results.{IsGiven, IsOfTree, IsRefused, IsResult, Nee
 use Rattle.redo_past.specs.NewBook.{IsWithBook}
 use Rattle.redo_report.specs.ReportText.{report_text}
 use Rattle.redo_report.specs.declared.report.Report.{Report}
-use Rattle.redo_tree.specs.Tree.{Tree, file_at, without}
+use Rattle.redo_tree.specs.Tree.{IsTree, Tree, file_at, without}
 use Rattle.redo_which.specs.Candidates.{book_path, journal_path}
 use Rattle.redo_which.specs.Rule.{chosen_of}
-use Rattle.redo_dir.specs.Loaded.{Clash, HasNames, IsLoaded, Leads, Looks, Reads, Unread}
+use Rattle.redo_dir.specs.Loaded.{Clash, HasNames, IsLoaded, Leads, Looks, ReadIf, Reads, Unread}
+use Rattle.redo_reads.specs.Reads.{AgreeOn, AreNamedAlike}
 use Rattle.redo_dir.specs.Stored.{Step}
 use Rattle.redo_mend.specs.Mended.{MendsTo}
 use Rattle.redo_dir.specs.declared.work_dir.Seen.{Seen}
@@ -27,6 +28,10 @@ use Rattle.redo_run.specs.Exits.{IsExitOf}
 use Rattle.redo_run.specs.Runs.{request_in}
 use Rattle.redo_run.specs.Storing.{StopsAt, clearing, storing, to_store}
 use Rattle.redo_run.specs.Skipping.{IsSoundFor, IsUnsafeOn}
+
+-- what it takes to build a directory: sixteen boards may be opened, one a round
+abbrev pub AllowsRounds : ℕ → Type 0
+AllowsRounds permit = 16 ≤ permit
 
 -- a tree as a build sees it: without the files that are to be taken back
 abbrev pub to_build : Options → Tree → Tree
@@ -78,10 +83,11 @@ pub record HasNoFile (lists : List ℕ → List (Option (List ℕ)) → Type 0) 
   pub stands : looks path seen
 
 -- why a directory can't be read: a call was refused, the names that were listed make no tree, or its book or journal is
--- no file
+-- no file; whichever files were read
 abbrev pub IsUnreadable : (List ℕ → List (Option (List ℕ)) → Type 0) → Looks → Reads → (List ℕ → ErrorKind → Type 0) → Type 0
 IsUnreadable lists looks reads refuses =
-    ((path : List ℕ) × (kind : ErrorKind) × refuses path kind) ⊎ (Clash lists (Leads looks reads) ⊎ HasNoFile lists looks reads)
+    ((path : List ℕ) × (kind : ErrorKind) × refuses path kind) ⊎
+    ((paths : List ℕ → Bool) × (Clash lists (Leads looks (ReadIf paths reads)) ⊎ HasNoFile lists looks (ReadIf paths reads)))
 
 -- a load fails for no other reason, or for want of memory
 abbrev pub IsUnread : (List ℕ → List (Option (List ℕ)) → Type 0) → Looks → Reads → (List ℕ → ErrorKind → Type 0) → RunDirFault → Type 0
@@ -89,34 +95,46 @@ IsUnread lists looks reads refuses Load = IsUnreadable lists looks reads refuses
 IsUnread lists looks reads refuses Memory = Unit {0}
 IsUnread lists looks reads refuses _ = ⊥
 
--- a tree was loaded and mended, and built without what is to be taken back
+-- the steps by which a run over this tree clears away and stores, which was mended to that one, and whose build has this
+-- report and a new book of this text
+abbrev pub steps_of : Tree → Tree → Report → List ℕ → List Step
+steps_of loaded mended report book = clearing loaded mended ++ storing mended (to_store mended report.files.items book)
+
+-- What the files at these paths decide, whatever is in the others: each tree with the same names that agrees on them is
+-- mended, comes to this report, new book and exit without what is to be taken back, and is stored by these steps.
+abbrev pub Decides : (List ℕ → Bool) → Options → Tree → Report → List ℕ → Exit → List Step → Type 0
+Decides paths options loaded report book exit steps =
+    (tree : Tree) → IsTree tree → AreNamedAlike loaded tree → AgreeOn paths loaded tree →
+    (mended : Tree) × MendsTo tree mended × IsBuilt (to_build options mended) options report book exit ×
+    (steps_of tree mended report book ≡ steps)
+
+-- A tree was loaded with the files at some paths, and each other one empty. It was mended, and built without what is to be
+-- taken back. What was read decides what comes of it.
 pub record Ran (lists : List ℕ → List (Option (List ℕ)) → Type 0) (looks : Looks) (reads : Reads) (options : Options) : Type 0 where
+  pub paths : List ℕ → Bool
   pub loaded : Tree
   pub passed : ℕ
-  pub is_loaded : IsLoaded lists (Leads looks reads) loaded passed
+  pub is_loaded : IsLoaded lists (Leads looks (ReadIf paths reads)) loaded passed
   pub mended : Tree
   pub mends : MendsTo loaded mended
   pub report : Report
   pub book : List ℕ
   pub exit : Exit
   pub built : IsBuilt (to_build options mended) options report book exit
+  pub decides : Decides paths options loaded report book exit (steps_of loaded mended report book)
 
--- the steps by which a run over this tree clears away and stores, which was mended to that one, and whose build has this
--- report and a new book of this text
-abbrev pub steps_of : Tree → Tree → Report → List ℕ → List Step
-steps_of loaded mended report book = clearing loaded mended ++ storing mended (to_store mended report.files.items book)
-
--- A tree was loaded and mended, and built without what is to be taken back; all steps were done by which what a broken-off
--- run had left is cleared away and the build is stored; and the writer took the report, without the files, and nothing
--- else.
+-- Such a tree was loaded, mended and built; all steps were done by which what a broken-off run had left is cleared away and
+-- the build is stored; and the writer took the report, without the files, and nothing else.
 pub record ReportsTree (lists : List ℕ → List (Option (List ℕ)) → Type 0) (looks : Looks) (reads : Reads) (options : Options) (before after : List Step) (old new : Option (List ℕ)) (run : DirRun) : Type 0 where
+  pub paths : List ℕ → Bool
   pub loaded : Tree
-  pub is_loaded : IsLoaded lists (Leads looks reads) loaded run.passed
+  pub is_loaded : IsLoaded lists (Leads looks (ReadIf paths reads)) loaded run.passed
   pub mended : Tree
   pub mends : MendsTo loaded mended
   pub past : IsOfTree (to_build options mended) run.past
   pub built : IsBuilt (to_build options mended) options run.report run.book run.exit
   pub done : after ≡ before ++ steps_of loaded mended run.report run.book
+  pub decides : Decides paths options loaded run.report run.book run.exit (steps_of loaded mended run.report run.book)
   pub written : Appends old new (report_text run.report false)
 
 -- a tree was loaded, and its book is refused for this line, or the mended tree isn't built for this reason, without what
@@ -127,15 +145,17 @@ pub record Stays (lists : List ℕ → List (Option (List ℕ)) → Type 0) (loo
   pub is_loaded : IsLoaded lists (Leads looks reads) loaded passed
   pub why : IsUnmended loaded fault ⊎ ((mended : Tree) × MendsTo loaded mended × IsUnbuilt (to_build options mended) options fault)
 
--- a tree was loaded and mended, and built without what is to be taken back; and the writer took the report, without the
--- files, and nothing else
+-- a tree was loaded and mended, and built without what is to be taken back, as what was read decides; and the writer took
+-- the report, without the files, and nothing else
 pub record PreviewsTree (lists : List ℕ → List (Option (List ℕ)) → Type 0) (looks : Looks) (reads : Reads) (options : Options) (old new : Option (List ℕ)) (run : DirRun) : Type 0 where
+  pub paths : List ℕ → Bool
   pub loaded : Tree
-  pub is_loaded : IsLoaded lists (Leads looks reads) loaded run.passed
+  pub is_loaded : IsLoaded lists (Leads looks (ReadIf paths reads)) loaded run.passed
   pub mended : Tree
   pub mends : MendsTo loaded mended
   pub past : IsOfTree (to_build options mended) run.past
   pub built : IsBuilt (to_build options mended) options run.report run.book run.exit
+  pub decides : Decides paths options loaded run.report run.book run.exit (steps_of loaded mended run.report run.book)
   pub written : Appends old new (report_text run.report false)
 
 -- why a run that stores nothing has no report

@@ -1,5 +1,5 @@
 -- What a run over a directory reads of a tree.
-use Rattle.std.specs.Prelude.{◌≡◌, ◌⊎◌, ℕ, true, List, map}
+use Rattle.std.specs.Prelude.{◌≡◌, ◌⊎◌, Bool, ℕ, true, List, map}
 use Rattle.redo_record.specs.Paths.{IsAmong}
 use Rattle.redo_reads.specs.Reads.{HasBook, IsCovered}
 use Rattle.redo_report.specs.declared.report.Report.{Report}
@@ -11,14 +11,14 @@ use Rattle.redo_run.specs.declared.exit.Exit.{Exit}
 use Rattle.redo_run.specs.declared.options.Options.{Options}
 
 -- these paths have each file of the tree that stands where the book or a file of the report is to be stored
-abbrev pub HasPlaces : List (List ℕ) → Tree → Report → Type 0
+abbrev pub HasPlaces : (List ℕ → Bool) → Tree → Report → Type 0
 HasPlaces paths tree report =
     (p : List ℕ) → ((p ≡ book_path) ⊎ IsAmong (map (λ f. f.0) report.files.items) p) → is_file tree p ≡ true →
-    IsAmong paths p
+    paths p ≡ true
 
 -- these paths have all files that a run looks into which builds the tree so: the book and what it names, the .do file of
 -- each row and the sources that its script declared, and what stands where it stores
-pub record HasRead (paths : List (List ℕ)) (tree : Tree) (options : Options) (report : Report) (book : List ℕ) (exit : Exit) : Type 0 where
+pub record HasRead (paths : List ℕ → Bool) (tree : Tree) (options : Options) (report : Report) (book : List ℕ) (exit : Exit) : Type 0 where
   pub built : IsBuilt (to_build options tree) options report book exit
   pub has_book : HasBook paths (to_build options tree) built.given.past.book
   pub has_rows : IsCovered paths built.given.past.sources report

@@ -43,6 +43,12 @@ impl Cause {
         }
     }
 
+    /// Forgets what was noted: it didn't end the run.
+    pub(crate) fn forget(&mut self) {
+        self.place.clear();
+        self.said = None;
+    }
+
     /// Notes a path, and what is wrong with it.
     pub(crate) fn note(&mut self, path: &Path, said: Said) {
         self.place.clear();

@@ -1,35 +1,29 @@
 //! Runs over a directory.
 
-ghost use Rattle.std.specs.Prelude.{◌≡◌, ◌↔◌, false, IfErr, IfOk, IsErrOf, true};
-ghost use Rattle.std.specs.Arc.{arc_value};
+ghost use Rattle.std.specs.Prelude.{◌≡◌, ◌↔◌, ◌≤◌, ◌+◌, false, IfErr, IfOk, IfSome, IsErrOf, true};
 ghost use Rattle.redo_core.specs.Permits.{IsUnused};
-ghost use Rattle.redo_dir.specs.Loaded.{HasNames, IsLoaded, IsRefusedBy, Leads, Unread};
-ghost use Rattle.redo_rules.specs.Results.{IsOfTree};
-ghost use Rattle.redo_which.specs.Candidates.{book_path as path_of_book, journal_path as path_of_journal};
-ghost use Rattle.redo_run.specs.DirFaults.{of_load};
-ghost use Rattle.redo_run.specs.Directories.{FallsInList, IsBuilt, IsBlocked, IsFaultOf, IsFileOrNone, IsUnbuilt, IsUnread};
-ghost use Rattle.redo_run.specs.Directories.{FallsInPreview, IsUnwritten, ListsTree, PreviewsTree, ReportsTree, to_build};
-ghost use Rattle.redo_run.specs.inside.Foreseen.{IsForeseen, IsUnforeseen};
-ghost use Rattle.redo_run.specs.inside.Loading.{HasNoPlace};
+ghost use Rattle.redo_dir.specs.Loaded.{AreNamesIn, ReadIf, wants};
+ghost use Rattle.redo_run.specs.Directories.{AllowsRounds, FallsInList, FallsInPreview, IsFaultOf, IsUnread, IsUnwritten};
+ghost use Rattle.redo_run.specs.Directories.{ListsTree, PreviewsTree, ReportsTree};
+ghost use Rattle.redo_run.specs.inside.Foreseen.{IsDecided, IsLoadedAnd, IsUnforeseen, IsUnloadedOr};
 
 use crate::candidates::text_of_search;
-use crate::exit::exit_after;
-use crate::request::requested;
-use crate::storing::{Plan, carry_out, to_store};
-use crate::workers::{past_of, report_over};
-use crate::{Cause, Exit, Host, Observer, Options, RunDirFault, Said};
+use crate::coverage::is_covered;
+use crate::foreseen::{Foreseen, foresee_over};
+use crate::laws::runs_rest_on_what_they_read;
+use crate::loading::{list, load_unread, load_wanted};
+use crate::storing::carry_out;
+use crate::wanting::{want_more, wanted_by_name, wanted_first};
+use crate::{Cause, Exit, Host, Observer, Options, RunDirFault};
 use redo_bundle::{ByteOut, write_all};
-use redo_dir::{LoadFault, WorkDir, journal_path, load_dir, load_names};
-use redo_mend::{Mended, mend};
-use redo_past::{Past, ReportParts, book_path, has_book};
+use redo_dir::{Names, Reading, Wanted, WorkDir};
+use redo_past::Past;
+use redo_past::laws::a_tree_has_one_past;
 use redo_path::Path;
 use redo_report::{Report, write_report};
-use redo_tree::{Content, Tree};
+use redo_tree::Content;
 use redo_which::lookup::search;
-use std::alloc::{AllocError, Global};
-use std::io::ErrorKind;
-use std::marker::Brand;
-use std::sync::{Arc, Wait};
+use std::sync::Wait;
 use std::thread::Threads;
 
 /// What a run over a directory came to.
@@ -40,7 +34,7 @@ pub struct DirRun {
     /// How many names were passed over, as `load_dir` says.
     pub passed: u64,
     /// The past of the tree that was built, which the run opened. The tree is as it was loaded, or mended, without the files
-    /// that were to be taken back.
+    /// that were to be taken back. A file that wasn't read is empty in it.
     pub past: Past,
     /// The report, with the files that were built or kept, but without the new book.
     pub report: Report,
@@ -48,206 +42,136 @@ pub struct DirRun {
     pub book: Content,
 }
 
-/// The fault of a directory that can't be read. The cause names what can't. Want of memory in the load is that of the run.
-fn unread(cause: &mut Cause, fault: LoadFault) -> RunDirFault
-    ensures { result ≡ of_load fault }
-{
-    match fault {
-        LoadFault::Device(path, kind) => {
-            cause.note(&path, Said::System(kind));
-            RunDirFault::Load
-        }
-        LoadFault::Memory => RunDirFault::Memory,
-    }
+/// In at most so many rounds not all files are read. One is the rule over a book, and two without one: another is needed
+/// where a script fails over an empty file before it declares what it needs besides.
+const PARTS: u64 = 14;
+
+/// What was found in a directory, and which files of it are read.
+#[derive(Drop)]
+struct Round {
+    names: Names,
+    wanted: Wanted,
 }
 
-/// Whether something stands at a path that is no file of the tree: a link, say.
-fn is_blocked<D: WorkDir>(
+/// Loads a directory, and foresees what a run over it comes to. The directory stays as it is.
+fn attempt<H: Threads + Wait + Sync, D: WorkDir + Sync, O: Observer>(
+    host: &mut Host<'_, H, O>,
     dir: &D,
-    alloc: Global,
-    tree: &Tree,
-    place: &Path,
-) -> Result<bool, LoadFault>
-    ensures blocked { IfOk result (IsBlocked (D.looks dir.now) (D.refuses dir.now) tree.now place.now) }
-    ensures refused { IfErr result (IsRefusedBy (D.refuses dir.now)) }
-{
-    if tree.content(place).is_some() {
-        return Ok(false);
-    }
-    match dir.look(alloc, place) {
-        Ok(_) => Ok(true),
-        Err(error) => match error.kind() {
-            ErrorKind::NotFound => Ok(false),
-            ErrorKind::OutOfMemory => Err(LoadFault::Memory),
-            kind => Err(LoadFault::Device(place.clone()?, kind)),
-        },
-    }
-}
-
-/// Reads a directory by at most N threads. Where it can't be read, the cause names what can't.
-pub fn load<T: Threads + Sync, D: WorkDir + Sync>(
-    rt: &T,
-    alloc: Global,
-    dir: &D,
-    workers: usize,
+    round: &mut Round,
+    options: &Options,
     cause: &mut Cause,
-) -> Result<(Tree, u64), RunDirFault>
+) -> Result<Foreseen, RunDirFault>
 where
     D::Draft: Send,
-    ensures loaded { IfOk result (λ loaded. IsLoaded (D.lists dir.now) (Leads (D.looks dir.now) (D.reads dir.now)) loaded.0 loaded.1) }
-    ensures unread { IfErr result (IsUnread (D.lists dir.now) (D.looks dir.now) (D.reads dir.now) (D.refuses dir.now)) }
+    requires permit { IsUnused host.old.permit }
+    requires names { AreNamesIn (D.lists dir.now) (D.looks dir.now) round.old.names }
+    ensures opened { host.old.permit ≤ host.new.permit + 1 }
+    ensures names { AreNamesIn (D.lists dir.now) (D.looks dir.now) round.new.names }
+    ensures wanted { round.new.wanted ≡ round.old.wanted }
+    ensures foreseen { IfOk result (IsLoadedAnd (D.lists dir.now) (D.looks dir.now)
+        (ReadIf (wants round.old.wanted) (D.reads dir.now)) options.now) }
+    ensures fault { IfErr result (IsUnloadedOr (D.lists dir.now) (D.looks dir.now)
+        (wants round.old.wanted) (D.reads dir.now) (D.refuses dir.now) options.now) }
 {
-    match load_dir(rt, dir, alloc, workers) {
-        Ok(loaded) => Ok(loaded),
-        Err(fault) => Err(unread(cause, fault)),
-    }
+    let reading = Reading {
+        workers: options.workers,
+        wanted: &round.wanted,
+    };
+    let tree = load_wanted(host, dir, &mut round.names, reading, cause)?;
+    foresee_over(host, tree, round.names.passed, options)
 }
 
-/// A place where a run wants a file or nothing.
-#[derive(Drop)]
-struct FilePlace {
-    path: Path,
-    /// What is said of anything else there.
-    no_file: Said,
-}
-
-/// Refuses a directory in which something stands in the place of the book or of the journal that is no file of the tree. A
-/// run without its book would take each file for a source. The cause names the place.
-fn check_place<D: WorkDir>(
+/// The same where not all files are read. Answers nothing where what was foreseen rests on others: more files are read then,
+/// or all of them.
+fn attempt_part<H: Threads + Wait + Sync, D: WorkDir + Sync, O: Observer>(
+    host: &mut Host<'_, H, O>,
     dir: &D,
-    alloc: Global,
-    tree: &Tree,
-    place: &FilePlace,
+    round: &mut Round,
+    options: &Options,
     cause: &mut Cause,
-) -> Result<(), RunDirFault>
-    ensures alone { IfOk result (λ _. IsFileOrNone (D.refuses dir.now) tree.now place.now.path) }
-    ensures refused { IfErr result (HasNoPlace (D.looks dir.now) (D.refuses dir.now) tree.now place.now.path) }
-{
-    match is_blocked(dir, alloc, tree, &place.path) {
-        Ok(false) => Ok(()),
-        Ok(true) => {
-            cause.note(&place.path, place.no_file);
-            Err(RunDirFault::Load)
-        }
-        Err(fault) => Err(unread(cause, fault)),
-    }
-}
-
-/// The same for a build, and for whatever else asks the book: the book has to be a file if there is one, and the journal
-/// too. Where the directory can't be read, or where something else stands in their places, the cause names what it is.
-pub fn load_with_book<T: Threads + Sync, D: WorkDir + Sync>(
-    rt: &T,
-    alloc: Global,
-    dir: &D,
-    workers: usize,
-    cause: &mut Cause,
-) -> Result<(Tree, u64), RunDirFault>
+) -> Result<Option<Foreseen>, RunDirFault>
 where
     D::Draft: Send,
-    ensures loaded { IfOk result (λ loaded. IsLoaded (D.lists dir.now) (Leads (D.looks dir.now) (D.reads dir.now)) loaded.0 loaded.1) }
-    ensures book { IfOk result (λ loaded. IsFileOrNone (D.refuses dir.now) loaded.0 path_of_book) }
-    ensures journal { IfOk result (λ loaded. IsFileOrNone (D.refuses dir.now) loaded.0 path_of_journal) }
+    requires permit { IsUnused host.old.permit }
+    requires names { AreNamesIn (D.lists dir.now) (D.looks dir.now) round.old.names }
+    ensures opened { host.old.permit ≤ host.new.permit + 1 }
+    ensures names { AreNamesIn (D.lists dir.now) (D.looks dir.now) round.new.names }
+    ensures decided { IfOk result (λ found. IfSome found
+        (IsDecided (D.lists dir.now) (D.looks dir.now) (D.reads dir.now) options.now)) }
     ensures unread { IfErr result (IsUnread (D.lists dir.now) (D.looks dir.now) (D.reads dir.now) (D.refuses dir.now)) }
 {
-    let (tree, passed) = load(rt, alloc, dir, workers, cause)?;
-    let book = FilePlace {
-        path: book_path(alloc)?,
-        no_file: Said::NoFile,
-    };
-    check_place(dir, alloc, &tree, &book, cause)?;
-    let journal = FilePlace {
-        path: journal_path(alloc)?,
-        no_file: Said::NoJournalFile,
-    };
-    check_place(dir, alloc, &tree, &journal, cause)?;
-    Ok((tree, passed))
-}
-
-/// What a build of a tree came to.
-#[derive(Drop)]
-struct Built {
-    past: Past,
-    /// The report without the new book.
-    report: Report,
-    /// The text of the new book.
-    book: Content,
-    exit: Exit,
-}
-
-/// Builds the targets of a tree.
-fn build<H: Threads + Wait + Sync, O: Observer>(
-    host: &mut Host<'_, H, O>,
-    tree: Tree,
-    options: &Options,
-) -> Result<Built, RunDirFault>
-    requires permit { IsUnused host.old.permit }
-    ensures built { IfOk result (λ built. IsBuilt tree options.now built.report built.book built.exit) }
-    ensures past { IfOk result (λ built. IsOfTree tree built.past) }
-    ensures refused { IfErr result (IsUnbuilt tree options.now) }
-{
-    let (limits, workers) = (options.limits, options.workers);
-    let request = requested(host.alloc(), &options.targets)?;
-    let past = past_of(host.rt, host.alloc(), tree, workers)?;
-    let kept = past.share()?;
-    let report = report_over::<Brand, H, O>(host, past, &request, limits, workers)?;
-    let exit = exit_after(host.alloc(), &report, &request)?;
-    let ReportParts { report, book } = report.into_parts(host.alloc())?;
-    Ok(Built {
-        past: kept,
-        report,
-        book,
-        exit,
-    })
-}
-
-/// What a build came to without the files that are to be taken back, and the tree that has them.
-#[derive(Drop)]
-struct OfMended {
-    mended: Arc<Tree>,
-    built: Built,
-}
-
-/// A tree that is shared from here on.
-fn shared(alloc: Global, tree: Tree) -> Result<Arc<Tree>, AllocError>
-    ensures { IfOk result (λ shared. arc_value shared ≡ tree) }
-{
-    Ok(Arc::new(alloc, tree)?)
-}
-
-/// Builds the targets of a mended tree without the files that are to be taken back.
-fn build_mended<H: Threads + Wait + Sync, O: Observer>(
-    host: &mut Host<'_, H, O>,
-    mended: Tree,
-    options: &Options,
-) -> Result<OfMended, RunDirFault>
-    requires permit { IsUnused host.old.permit }
-    ensures mended { IfOk result (λ of. arc_value of.mended ≡ mended) }
-    ensures past { IfOk result (λ of. IsOfTree (to_build options.now mended) of.built.past) }
-    ensures built { IfOk result (λ of.
-        IsBuilt (to_build options.now mended) options.now of.built.report of.built.book of.built.exit) }
-    ensures refused { IfErr result (IsUnbuilt (to_build options.now mended) options.now) }
-{
-    if options.taken.is_empty() {
-        let built = build(host, mended, options)?;
-        let mended = Arc::try_clone(built.past.tree())?;
-        return Ok(OfMended { mended, built });
+    runs_rest_on_what_they_read();
+    a_tree_has_one_past();
+    if round.wanted.all {
+        return Ok(None);
     }
-    let tree = mended.without(host.alloc(), &options.taken)?;
-    let built = build(host, tree, options)?;
-    let mended = shared(host.alloc(), mended)?;
-    Ok(OfMended { mended, built })
+    match attempt(host, dir, round, options, cause) {
+        Ok(foreseen) => {
+            if is_covered(host.alloc(), &foreseen, &round.wanted)? {
+                return Ok(Some(foreseen));
+            }
+            want_more(host.alloc(), &mut round.wanted, &foreseen)?;
+            Ok(None)
+        }
+        Err(RunDirFault::Load) => Err(RunDirFault::Load),
+        Err(RunDirFault::Memory) => Err(RunDirFault::Memory),
+        Err(_) => {
+            // A book or a number of targets is refused only by all files.
+            round.wanted.all = true;
+            Ok(None)
+        }
+    }
 }
 
-/// What a run over a directory came to, and what is left to be done to the directory.
-#[derive(Drop)]
-struct Foreseen {
-    run: DirRun,
-    /// The mended tree, over which is stored.
-    mended: Arc<Tree>,
-    plan: Plan,
+/// The same where all files are read, so that they decide.
+fn attempt_all<H: Threads + Wait + Sync, D: WorkDir + Sync, O: Observer>(
+    host: &mut Host<'_, H, O>,
+    dir: &D,
+    round: &mut Round,
+    options: &Options,
+    cause: &mut Cause,
+) -> Result<Foreseen, RunDirFault>
+where
+    D::Draft: Send,
+    requires permit { IsUnused host.old.permit }
+    requires names { AreNamesIn (D.lists dir.now) (D.looks dir.now) round.old.names }
+    ensures opened { host.old.permit ≤ host.new.permit + 1 }
+    ensures names { AreNamesIn (D.lists dir.now) (D.looks dir.now) round.new.names }
+    ensures decided { IfOk result (IsDecided (D.lists dir.now) (D.looks dir.now) (D.reads dir.now) options.now) }
+    ensures fault { IfErr result (IsUnforeseen (D.lists dir.now) (D.looks dir.now) (D.reads dir.now) (D.refuses dir.now) options.now) }
+{
+    round.wanted.all = true;
+    attempt(host, dir, round, options, cause)
 }
 
-/// Reads a directory, mends its tree, builds the targets, and plans what a run stores. The directory stays as it is.
+/// Reads some files, and then those that were looked into besides, as often as it takes, and at last all.
+fn foresee_part<H: Threads + Wait + Sync, D: WorkDir + Sync, O: Observer>(
+    host: &mut Host<'_, H, O>,
+    dir: &D,
+    round: &mut Round,
+    options: &Options,
+    cause: &mut Cause,
+) -> Result<Foreseen, RunDirFault>
+where
+    D::Draft: Send,
+    requires permit { 15 ≤ host.old.permit }
+    requires names { AreNamesIn (D.lists dir.now) (D.looks dir.now) round.old.names }
+    ensures decided { IfOk result (IsDecided (D.lists dir.now) (D.looks dir.now) (D.reads dir.now) options.now) }
+    ensures fault { IfErr result (IsUnforeseen (D.lists dir.now) (D.looks dir.now) (D.reads dir.now) (D.refuses dir.now) options.now) }
+{
+    for _part in 0..PARTS {
+        if let Some(foreseen) = attempt_part(host, dir, round, options, cause)? {
+            return Ok(foreseen);
+        }
+    }
+    attempt_all(host, dir, round, options, cause)
+}
+
+/// Reads what a build needs of a directory, in rounds, and foresees what a run comes to. The directory stays as it is.
+///
+/// A round reads some files, and takes each other one for empty. If all files that its build looked into were read, what it
+/// came to holds whatever is in the others. If not, those are read besides, and the build is made again; the last round reads
+/// all files. Where they have few bytes, so does the first, unless one can't be read: it may be one that nobody needs.
 fn foresee<H: Threads + Wait + Sync, D: WorkDir + Sync, O: Observer>(
     host: &mut Host<'_, H, O>,
     dir: &D,
@@ -256,41 +180,30 @@ fn foresee<H: Threads + Wait + Sync, D: WorkDir + Sync, O: Observer>(
 ) -> Result<Foreseen, RunDirFault>
 where
     D::Draft: Send,
-    requires permit { IsUnused host.old.permit }
-    ensures foreseen { IfOk result (IsForeseen (D.lists dir.now) (D.looks dir.now) (D.reads dir.now) options.now) }
+    requires permit { AllowsRounds host.old.permit }
+    ensures decided { IfOk result (IsDecided (D.lists dir.now) (D.looks dir.now) (D.reads dir.now) options.now) }
     ensures fault { IfErr result (IsUnforeseen (D.lists dir.now) (D.looks dir.now) (D.reads dir.now) (D.refuses dir.now) options.now) }
 {
-    let (tree, passed) = load_with_book(host.rt, host.alloc(), dir, options.workers, cause)?;
-    let over = has_book(&tree);
-    let Mended { tree, left } = mend(host.rt, host.alloc(), options.workers, tree)?;
-    let OfMended { mended, built } = build_mended(host, tree, options)?;
-    let Built {
-        past,
-        report,
-        book,
-        exit,
-    } = built;
-    let new = to_store(host.alloc(), &mended, &report.files, &book)?;
-    let plan = Plan {
-        left,
-        over,
-        new,
-        workers: options.workers,
-    };
-    let run = DirRun {
-        exit,
-        passed,
-        past,
-        report,
-        book,
-    };
-    Ok(Foreseen { run, mended, plan })
+    let names = list(host.rt, host.alloc(), dir, options.workers, cause)?;
+    let wanted = wanted_first(host.alloc(), dir, &names)?;
+    let mut round = Round { names, wanted };
+    if round.wanted.all {
+        match attempt_all(host, dir, &mut round, options, cause) {
+            Ok(foreseen) => return Ok(foreseen),
+            Err(RunDirFault::Load) => cause.forget(),
+            Err(fault) => return Err(fault),
+        }
+        round.wanted = wanted_by_name(host.alloc(), dir, &round.names)?;
+    }
+    foresee_part(host, dir, &mut round, options, cause)
 }
 
-/// Reads a directory with all that is below it, builds the targets of its sources, stores the files that were built and
-/// the new book in the directory, and then writes the report, without the files. A file that already stood there as it
-/// came out is not written again. The workers also read the directory, make the digests that the book is compared with,
-/// and write the files.
+/// Finds what a directory has, reads the files that a build of the targets needs, stores the files that were built and the
+/// new book in the directory, and then writes the report, without the files. A file that already stood there as it came
+/// out is not written again. The workers also read the files, make the digests that the book is compared with, and write.
+///
+/// What was read decides what the run comes to: it is the same for each tree with these names and these contents,
+/// whatever is in the other files.
 ///
 /// Where a run was broken off while it stored its files, the tree is mended first: its files count as built, as its
 /// journal tells.
@@ -314,7 +227,7 @@ pub fn run_dir<H: Threads + Wait + Sync, D: WorkDir + Sync, W: ByteOut, O: Obser
 ) -> Result<DirRun, RunDirFault>
 where
     D::Draft: Send,
-    requires permit { IsUnused host.old.permit }
+    requires permit { AllowsRounds host.old.permit }
     requires writer { W.has_failed writer.old ≡ false }
     ensures report { IfOk result (ReportsTree (D.lists dir.old) (D.looks dir.old) (D.reads dir.old) options.now
         (D.done dir.old) (D.done dir.new) (W.held writer.old) (W.held writer.new)) }
@@ -339,7 +252,7 @@ pub fn preview_dir<H: Threads + Wait + Sync, D: WorkDir + Sync, W: ByteOut, O: O
 ) -> Result<DirRun, RunDirFault>
 where
     D::Draft: Send,
-    requires permit { IsUnused host.old.permit }
+    requires permit { AllowsRounds host.old.permit }
     requires writer { W.has_failed writer.old ≡ false }
     ensures report { IfOk result (PreviewsTree (D.lists dir.now) (D.looks dir.now) (D.reads dir.now) options.now
         (W.held writer.old) (W.held writer.new)) }
@@ -351,24 +264,6 @@ where
     let Foreseen { run: preview, .. } = foresee(host, dir, options, cause)?;
     write_report(writer, &preview.report, false)?;
     Ok(preview)
-}
-
-/// Reads the names of a directory, and none of its files. Where that can't be done, the cause names where.
-fn load_unread<T: Threads + Sync, D: WorkDir + Sync>(
-    rt: &T,
-    alloc: Global,
-    dir: &D,
-    cause: &mut Cause,
-) -> Result<(Tree, u64), RunDirFault>
-where
-    D::Draft: Send,
-    ensures named { IfOk result (λ loaded. HasNames (D.lists dir.now) (D.looks dir.now) loaded.0 loaded.1) }
-    ensures unread { IfErr result (IsUnread (D.lists dir.now) (D.looks dir.now) Unread (D.refuses dir.now)) }
-{
-    match load_names(rt, dir, alloc, 1) {
-        Ok(loaded) => Ok(loaded),
-        Err(fault) => Err(unread(cause, fault)),
-    }
 }
 
 /// Reads the names of a directory with all that is below it, and no file, and writes the candidates for a target's rule,

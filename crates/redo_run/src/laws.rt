@@ -1,6 +1,6 @@
 //! Laws of runs. The functions do nothing: each contract is a law.
 
-ghost use Rattle.std.specs.Prelude.{◌≡◌, ℕ, List, None};
+ghost use Rattle.std.specs.Prelude.{◌≡◌, ℕ, Bool, List, None};
 ghost use Rattle.redo_mend.specs.Mended.{MendsTo};
 ghost use Rattle.redo_reads.specs.Reads.{AgreeOn, AreNamedAlike};
 ghost use Rattle.redo_report.specs.declared.report.Report.{Report};
@@ -39,10 +39,10 @@ pub fn keeping_is_sound()
 /// tree as it is, comes to the same report, book and exit, and takes the same steps.
 pub fn runs_rest_on_what_they_read()
     ensures mended { (one two : Tree) → AreNamedAlike one two → file_at one journal_path ≡ None → MendsTo two two }
-    ensures built { (one two : Tree) (paths : List (List ℕ)) (options : Options) (report : Report) (book : List ℕ)
+    ensures built { (one two : Tree) (paths : List ℕ → Bool) (options : Options) (report : Report) (book : List ℕ)
         (exit : Exit) → IsTree one → IsTree two → AreNamedAlike one two → AgreeOn paths one two →
         HasRead paths one options report book exit → IsBuilt (to_build options two) options report book exit }
-    ensures steps { (one two : Tree) (paths : List (List ℕ)) (options : Options) (report : Report) (book : List ℕ)
+    ensures steps { (one two : Tree) (paths : List ℕ → Bool) (options : Options) (report : Report) (book : List ℕ)
         (exit : Exit) → AreNamedAlike one two → AgreeOn paths one two → file_at one journal_path ≡ None →
         HasRead paths one options report book exit → steps_of two two report book ≡ steps_of one one report book }
 {

@@ -14,21 +14,26 @@
 //! - [`RunFault`]: why a build has no report; `exit`: whether every requested path is a source or built;
 //! - `laws`: laws of runs, as contracts of functions that do nothing;
 //! - `bundle`: the two calls over bundles; `options` and `fault`: what they take and refuse; `directory` and
-//!   `dir_fault`: the same over a directory; `storing`: what is stored there; `request` and `candidates`: what both share.
+//!   `dir_fault`: the same over a directory, in rounds; `loading`: how it is read; `wanting`: which files of it; `foreseen`:
+//!   a build of what was read; `coverage`: whether that was all that it needs; `storing`: what is stored there; `request` and
+//!   `candidates`: what both share.
 #![tactic(auto)]
 
 mod bundle;
 mod candidates;
 mod cause;
+mod coverage;
 mod crew;
 mod dir_fault;
 mod directory;
 mod ended;
 mod exit;
 mod fault;
+mod foreseen;
 mod gate;
 mod host;
 pub mod laws;
+mod loading;
 mod observer;
 mod of_build;
 mod one;
@@ -40,16 +45,18 @@ mod pool;
 mod request;
 mod right;
 mod storing;
+mod wanting;
 mod workers;
 
 pub use bundle::{BundleRun, run_bundle, whichdo_bundle};
 pub use cause::{Cause, Said};
 pub use dir_fault::RunDirFault;
-pub use directory::{DirRun, load, load_with_book, preview_dir, run_dir, whichdo_dir};
+pub use directory::{DirRun, preview_dir, run_dir, whichdo_dir};
 pub use exit::Exit;
 pub use fault::RunIoFault;
 pub use gate::{Gate, Gated, NoGate};
-pub use host::Host;
+pub use host::{Host, ROUNDS};
+pub use loading::{load, load_with_book};
 pub use observer::{NoObserver, Observer};
 pub use of_build::{BuildBrand, JobOf};
 pub use one::build_one;

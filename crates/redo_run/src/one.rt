@@ -3,7 +3,7 @@
 ghost use Rattle.std.specs.Prelude.{◌≡◌, ◌<◌, Err, IfOk, IsNone, OnOk, ℕ};
 ghost use Rattle.redo_rules.specs.Results.{IsRefused, IsResultOn, NeedsTooMany};
 ghost use Rattle.redo_core.specs.Faults.{IsSameBuild};
-ghost use Rattle.redo_core.specs.Permits.{IsUnused, IsUsed};
+ghost use Rattle.redo_core.specs.Permits.{IsUnused, Uses};
 ghost use Rattle.redo_build.specs.Outcomes.{IsTooMany};
 ghost use Rattle.redo_build.specs.TakesLeft.{takes_left};
 ghost use Rattle.redo_run.specs.Skipping.{IsSoundOn, IsUnsafeOn};
@@ -53,7 +53,7 @@ pub fn build_one(
     limits: Limits,
 ) -> Result<Report, RunFault>
     requires permit { IsUnused permit.old }
-    ensures used { OnOk result (IsUsed permit.new) }
+    ensures used { OnOk result (Uses permit.old permit.new) }
     ensures report { IfOk result (IsResultOn tree request.now limits) }
     ensures sound { IfOk result (IsSoundOn tree request.now limits) }
     ensures book { (n : ℕ) → result ≡ Err (RunFault.Book n) → IsRefused tree n }

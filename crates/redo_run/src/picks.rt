@@ -6,7 +6,7 @@
 ghost use Rattle.std.specs.Prelude.{◌≡◌, Err, IfOk, IsNone, MatchBool, None, OnOk, Some, length, ℕ};
 ghost use Rattle.redo_rules.specs.Results.{IsRefused, NeedsTooMany};
 ghost use Rattle.redo_core.specs.Faults.{IsSameBuild};
-ghost use Rattle.redo_core.specs.Permits.{IsUnused, IsUsed};
+ghost use Rattle.redo_core.specs.Permits.{IsUnused, Uses};
 ghost use Rattle.redo_build.specs.Outcomes.{IsTooMany};
 ghost use Rattle.redo_core.specs.Views.{limit_on, request_on, rules_on};
 ghost use Rattle.redo_run.specs.Picks.{IsDriven, driven_on, picked};
@@ -111,7 +111,7 @@ pub fn drive(
     picks: &[Pick],
 ) -> Result<(Board, usize), RunFault>
     requires permit { IsUnused permit.old }
-    ensures used { OnOk result (IsUsed permit.new) }
+    ensures used { OnOk result (Uses permit.old permit.new) }
     ensures ok { IfOk result (λ driven. IsDriven tree request.now limits picks.now driven.0 driven.1) }
     ensures book { (n : ℕ) → result ≡ Err (RunFault.Book n) → IsRefused tree n }
     ensures too_many { result ≡ Err RunFault.TooMany → NeedsTooMany tree request.now limits }

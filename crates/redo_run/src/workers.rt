@@ -279,7 +279,8 @@ fn build_over<B: BuildBrand + Send + Sync, R: Threads + Wait + Sync, O: Observer
     requires of_build { (B.tree ≡ past.tree) × (B.request ≡ request.now) × (B.limits ≡ limits) }
     requires some { 1 ≤ workers }
     requires few { workers ≤ 64 }
-    ensures { IsBuildOf past.tree request.now limits result }
+    ensures built { IsBuildOf past.tree request.now limits result }
+    ensures opened { host.old.permit ≤ host.new.permit + 1 }
 {
     what_was_taken();
     keeping_is_sound();
@@ -300,6 +301,7 @@ pub(crate) fn report_over<B: BuildBrand + Send + Sync, R: Threads + Wait + Sync,
     requires of_build { (B.tree ≡ past.tree) × (B.request ≡ request.now) × (B.limits ≡ limits) }
     requires some { 1 ≤ workers }
     requires few { workers ≤ 64 }
+    ensures opened { host.old.permit ≤ host.new.permit + 1 }
     ensures report { IfOk result (IsResultOn past.tree request.now limits) }
     ensures sound { IfOk result (IsSoundOn past.tree request.now limits) }
     ensures book { (n : ℕ) → result ≡ Err (RunFault.Book n) → ⊥ }

@@ -68,7 +68,7 @@ fn by_one_thread(
 ) -> Result<Result<Report, RunFault>, Fail> {
     let alloc = rt.alloc();
     let request = paths_of(alloc, words)?;
-    let mut permit = Permit::new(rt, alloc);
+    let mut permit = Permit::new(rt, alloc, 1);
     let tree = tree_of(alloc, bundle)?;
     let limits = limits_of(100)?;
     Ok(build_one(&mut permit, tree, &request, limits))
@@ -118,7 +118,7 @@ const TAKES: usize = 7;
 /// Opens a board of the diamond over a tree; `None` if memory runs out.
 fn opened(rt: &HostRuntime, tree: &Arc<Tree>) -> Result<Option<Board>, Fail> {
     let alloc = rt.alloc();
-    let mut permit = Permit::new(rt, alloc);
+    let mut permit = Permit::new(rt, alloc, 1);
     let request = paths_of(alloc, "top")?;
     match Board::open(
         &mut permit,

@@ -50,7 +50,7 @@ fn came_to(
     order: &str,
 ) -> Result<Vec<u8>, Fail> {
     let alloc = rt.alloc();
-    let mut permit = Permit::new(rt, alloc);
+    let mut permit = Permit::new(rt, alloc, 1);
     let tree = tree_of(alloc, bundle)?;
     let request = paths_of(alloc, words)?;
     let picks = picks_of(alloc, order)?;

@@ -16,7 +16,7 @@ pub(crate) fn board_of(
     targets: u32,
 ) -> Result<Board, Fail> {
     let alloc = rt.alloc();
-    let mut permit = Permit::new(rt, alloc);
+    let mut permit = Permit::new(rt, alloc, 1);
     let tree = Arc::new(alloc, tree_of(alloc, bundle)?)?;
     let request = paths_of(alloc, words)?;
     Ok(Board::open(&mut permit, tree, &request, limits_of(targets)?)?)

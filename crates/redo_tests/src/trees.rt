@@ -3,6 +3,7 @@
 ghost use Rattle.std.specs.Prelude.{◌≡◌, ◌≤◌, IfOk};
 ghost use Rattle.redo_bundle.specs.Bundle.{HasSmallFiles};
 ghost use Rattle.redo_core.specs.Permits.{IsUnused};
+ghost use Rattle.redo_run.specs.Directories.{AllowsRounds};
 
 use redo_bundle::{Plain, read_bundle};
 use redo_core::permit::Permit;
@@ -69,18 +70,18 @@ pub(crate) fn limits_of(targets: u32) -> Result<Limits, Fail> {
 
 /// What a run is lent that an observer watches, with a permit of its own.
 pub(crate) fn host_with<'a, O>(rt: &'a HostRuntime, observer: &'a O) -> Host<'a, HostRuntime, O>
-    ensures { IsUnused result.permit }
+    ensures { AllowsRounds result.permit }
 {
     Host {
         rt,
-        permit: Permit::new(rt, rt.alloc()),
+        permit: Permit::new(rt, rt.alloc(), ROUNDS),
         observer,
     }
 }
 
 /// The same without an observer.
 pub(crate) fn host_of(rt: &HostRuntime) -> Host<'_, HostRuntime, NoObserver>
-    ensures { IsUnused result.permit }
+    ensures { AllowsRounds result.permit }
 {
     host_with(rt, &NoObserver)
 }

@@ -1,6 +1,6 @@
 //! Runs over a directory in memory.
 
-ghost use Rattle.redo_core.specs.Permits.{IsUnused};
+ghost use Rattle.redo_run.specs.Directories.{AllowsRounds};
 
 use crate::memory_dir::{MemoryDir, Node};
 use crate::trees::{host_of, limits_of, paths_of};
@@ -48,7 +48,7 @@ fn ran<H: Threads + Wait + Sync>(
     targets: &str,
     workers: usize,
 ) -> Result<Result<(Exit, u64), RunDirFault>, Fail>
-    requires { IsUnused host.old.permit }
+    requires { AllowsRounds host.old.permit }
 {
     let alloc = host.alloc();
     let options = Options {

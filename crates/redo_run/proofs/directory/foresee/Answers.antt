@@ -1,53 +1,16 @@
-use Rattle.std.proofs.Common.{◌≡◌, Err, refl, rules, subst, sym}
-use Rattle.std.specs.Arc.{arc_value}
-use Rattle.std.specs.Prelude.{IfErr}
-use Rattle.redo_mend.specs.Mended.{MendsTo}
-use Rattle.redo_rules.specs.Results.{IsOfTree}
-use Rattle.redo_tree.specs.Tree.{Tree}
-use Rattle.redo_run.specs.Directories.{IsBuilt, to_build}
-use Rattle.redo_run.specs.Storing.{clearing}
-use Rattle.redo_run.specs.declared.storing.Plan.{Plan}
-use Rattle.redo_run.specs.inside.Foreseen.{IsUnforeseen}
-use Rattle.redo_run.specs.inside.Storing.{steps_left}
-use Rattle.redo_run.proofs.StoringLemmas.{left_is_cleared, new_is_stored_by}
-use Rattle.redo_run.proofs.DirectoryLemmas.{unbuilt}
+use Rattle.std.proofs.Common.{subst, sym}
+use Rattle.redo_dir.specs.Loaded.{AreNamesIn}
+use Rattle.redo_run.specs.declared.directory.Round.{Round}
 use Rattle.redo_run.proofs.directory.foresee.Goals as goal
+use Rattle.redo_run.proofs.directory.foresee.Goals.{then-round+in-Err-Load+in_ok-round, else-round}
 
--- the mended tree isn't built
-pub returns-in_err-mended-clause-fault : goal.returns-in_err-mended-clause-fault
-returns-in_err-mended-clause-fault g c =
-    let lists = g.D.WorkDir.lists c.args.dir.now in
-    let looks = g.D.WorkDir.looks c.args.dir.now in
-    let reads = g.D.WorkDir.reads c.args.dir.now in
-    let refuses = g.D.WorkDir.refuses c.args.dir.now in
-    let options = c.args.options.now in
-    let fault = c.in_err-mended.field-0.0 in
-    let result : Err fault ≡ c.from_residual-in_err-mended.result = search rules in
-    subst (λ r. IfErr r (IsUnforeseen lists looks reads refuses options)) result
-    (unbuilt lists looks reads refuses options c.in_ok-tree.tree c.in_ok-tree-2.field-0.tree c.in_ok-tree.passed fault
-    c.in_ok-tree.ensures.loaded c.in_ok-tree-2.ensures.mends c.in_err-mended.ensures.refused)
-
--- what was built is the mended tree, as it was shared
-pub returns-clause-foreseen : goal.returns-clause-foreseen
-returns-clause-foreseen g c =
-    let options = c.args.options.now in
-    let mended = c.in_ok-mended.field-0.mended in let built = c.in_ok-mended.field-0.built in
-    let same : arc_value mended ≡ c.in_ok-tree-2.field-0.tree = c.in_ok-mended.ensures.mended in
-    let plan : Plan = record {
-      left = c.in_ok-tree-2.field-0.left;
-      over = c.has_book-over.result;
-      new = c.in_ok-new.new;
-      workers = options.workers;
-    } in
-    let cleared = left_is_cleared c.in_ok-tree.tree c.in_ok-tree-2.field-0.tree c.has_book-over.result c.in_ok-tree-2.field-0.left c.has_book-over.ensures
-    c.in_ok-tree-2.ensures.journal c.in_ok-tree-2.ensures.book c.in_ok-tree-2.ensures.own in
-    let read : c.deref.result.now ≡ arc_value mended = search rules in
-    record {
-      loaded = c.in_ok-tree.tree;
-      is_loaded = c.in_ok-tree.ensures.loaded;
-      mends = subst (MendsTo c.in_ok-tree.tree) (sym same) c.in_ok-tree-2.ensures.mends;
-      past = subst (λ (t : Tree). IsOfTree (to_build options t) built.past) (sym same) c.in_ok-mended.ensures.past;
-      built = subst (λ (t : Tree). IsBuilt (to_build options t) options built.report built.book built.exit) (sym same) c.in_ok-mended.ensures.built;
-      left = subst (λ (t : Tree). steps_left plan ≡ clearing c.in_ok-tree.tree t) (sym same) cleared;
-      new = new_is_stored_by c.deref.result.now (arc_value mended) (arc_value mended) c.in_ok-new.new c.deref-2.result.now built.report.files.items built.book c.in_ok-new.ensures read refl c.deref-2.ensures.value;
-    }
+-- the names stay as they were found
+pub foresee_part-requires-clause-names : goal.foresee_part-requires-clause-names
+foresee_part-requires-clause-names g c κs within =
+    let dir = c.args.dir.now in
+    elim c.if-round.branch [
+      | then-round+in-Err-Load+in_ok-round w ↦
+          subst (λ (r : Round). AreNamesIn (g.D.WorkDir.lists dir) (g.D.WorkDir.looks dir) r.names) (sym w.round-is) w.attempt_all.ensures.names
+      | else-round w ↦
+          subst (λ (r : Round). AreNamesIn (g.D.WorkDir.lists dir) (g.D.WorkDir.looks dir) r.names) (sym w.round-is) c.in_ok-names.ensures.names
+    ]

@@ -14,16 +14,18 @@ returns-in_err-write_report-clause-fault g c =
     let refuses = g.D.WorkDir.refuses c.args.dir.now in
     let options = c.args.options.now in
     let run = c.in_ok-preview.field-0.run in
-    let foreseen = c.in_ok-preview.ensures.foreseen in
+    let decided = c.in_ok-preview.ensures.decided in
     let result : Err Device ≡ c.from_residual-in_err-write_report.result = search rules in
     subst (λ r. IfErr r (FallsInPreview lists looks reads refuses options)) result (record {
-      loaded = foreseen.loaded;
+      paths = decided.paths;
+      loaded = decided.loaded;
       passed = run.passed;
-      is_loaded = foreseen.is_loaded;
+      is_loaded = decided.is_loaded;
       mended = arc_value c.in_ok-preview.field-0.mended;
-      mends = foreseen.mends;
+      mends = decided.foreseen.mends;
       report = run.report;
       book = run.book;
       exit = run.exit;
-      built = foreseen.built;
+      built = decided.foreseen.built;
+      decides = decided.decides;
     })

@@ -5,7 +5,6 @@ use Rattle.std.specs.Prelude.{IfErr}
 use Rattle.std.specs.declared.io.ErrorKind.{ErrorKind}
 use Rattle.redo_run.specs.Directories.{IsFaultOf, steps_of}
 use Rattle.redo_run.specs.Storing.{clearing, storing, to_store}
-use Rattle.redo_run.specs.declared.dir_fault.RunDirFault.TheVariants.{Device}
 use Rattle.redo_run.specs.inside.Storing.{IsPart, steps_left, steps_new}
 use Rattle.redo_run.proofs.DirectoryLemmas.{undone_fault, unforeseen}
 use Rattle.redo_run.proofs.directory.run_dir.Goals as goal
@@ -36,7 +35,7 @@ returns-in_err-carry_out-clause-fault g c =
     let options = c.args.options.now in
     let before = g.D.WorkDir.done c.args.dir.now in let after = g.D.WorkDir.done c.carry_out.new.dir in
     let run = c.in_ok-run.field-0.run in let plan = c.in_ok-run.field-0.plan in
-    let foreseen = c.in_ok-run.ensures.foreseen in
+    let decided = c.in_ok-run.ensures.decided in let foreseen = decided.foreseen in
     let tree = arc_value c.in_ok-run.field-0.mended in
     let read : c.deref.result.now ≡ tree = search rules in
     let fault = c.in_err-carry_out.field-0.0 in
@@ -45,20 +44,23 @@ returns-in_err-carry_out-clause-fault g c =
     (subst (λ ss. IsPart told (steps_left plan) ss before after fault) foreseen.new planned) in
     let p = err_from_is_err_and c.from_residual-in_err-carry_out.result c.from_residual-in_err-carry_out.ensures.1 in
     rw (p.1, p.2) (undone_fault lists looks reads refuses told options before (record {
-      loaded = foreseen.loaded;
+      paths = decided.paths;
+      loaded = decided.loaded;
       passed = run.passed;
-      is_loaded = foreseen.is_loaded;
+      is_loaded = decided.is_loaded;
       mended = tree;
       mends = foreseen.mends;
       report = run.report;
       book = run.book;
       exit = run.exit;
       built = foreseen.built;
+      decides = decided.decides;
     }) after fault part)
 
 -- all steps were done
 pub returns-in_err-write_report-clause-fault : goal.returns-in_err-write_report-clause-fault
 returns-in_err-write_report-clause-fault g c =
+    let p = err_from_is_err_and c.from_residual-in_err-write_report.result c.from_residual-in_err-write_report.ensures.1 in
     let lists = g.D.WorkDir.lists c.args.dir.now in
     let looks = g.D.WorkDir.looks c.args.dir.now in
     let reads = g.D.WorkDir.reads c.args.dir.now in
@@ -67,25 +69,26 @@ returns-in_err-write_report-clause-fault g c =
     let options = c.args.options.now in
     let before = g.D.WorkDir.done c.args.dir.now in let after = g.D.WorkDir.done c.carry_out.new.dir in
     let run = c.in_ok-run.field-0.run in let plan = c.in_ok-run.field-0.plan in
-    let foreseen = c.in_ok-run.ensures.foreseen in
+    let decided = c.in_ok-run.ensures.decided in let foreseen = decided.foreseen in
     let tree = arc_value c.in_ok-run.field-0.mended in
     let read : c.deref.result.now ≡ tree = search rules in
-    let done : after ≡ before ++ steps_of foreseen.loaded tree run.report run.book =
+    let done : after ≡ before ++ steps_of decided.loaded tree run.report run.book =
     c.in_ok-carry_out.ensures.all ∙ ap (λ t. before ++ (steps_left plan ++ steps_new t plan)) read
     ∙ ap (λ ss. before ++ (ss ++ steps_new tree plan)) foreseen.left
-    ∙ ap (λ ss. before ++ (clearing foreseen.loaded tree ++ ss)) foreseen.new in
-    let result : Err Device ≡ c.from_residual-in_err-write_report.result = search rules in
-    subst (λ r. IfErr r (IsFaultOf lists looks reads refuses told options before after)) result (
+    ∙ ap (λ ss. before ++ (clearing decided.loaded tree ++ ss)) foreseen.new in
+    rw (p.1, p.2) (
       record {
-        loaded = foreseen.loaded;
+        paths = decided.paths;
+        loaded = decided.loaded;
         passed = run.passed;
-        is_loaded = foreseen.is_loaded;
+        is_loaded = decided.is_loaded;
         mended = tree;
         mends = foreseen.mends;
         report = run.report;
         book = run.book;
         exit = run.exit;
         built = foreseen.built;
+        decides = decided.decides;
       },
       done,
     )

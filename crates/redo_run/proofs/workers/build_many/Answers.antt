@@ -13,4 +13,4 @@ pub returns-clause-sound : goal.returns-clause-sound
 returns-clause-sound g c =
     let P : Tree → Type 0 = λ t. IsSoundOn t c.args.request.now c.args.limits c.in_ok-report.report in
     let Q : Report → Type 0 = λ r. IsSoundOn c.args.tree c.args.request.now c.args.limits r in
-    subst Q (sym c.in_ok-into_report.ensures) (subst P c.in_ok-past.ensures.past.of_tree c.in_ok-report.ensures.sound)
+    subst Q (sym c.in_ok-into_report.ensures) (subst P c.in_ok-past.ensures.past.of_tree c.in_ok-report.ensures.built.sound)

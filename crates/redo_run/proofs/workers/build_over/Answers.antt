@@ -22,8 +22,8 @@ run_build-requires-clause-opened g c κs within =
     let board = c.in_ok-board.board in c.what_was_taken.ensures.opened board.given board c.in_ok-board.ensures.ok.is
 
 -- no board is opened: too many targets are needed, or memory runs out
-pub returns-in_err-board : goal.returns-in_err-board
-returns-in_err-board g c =
+pub returns-in_err-board-clause-built : goal.returns-in_err-board-clause-built
+returns-in_err-board-clause-built g c =
     let tree = c.args.past.tree in let request = c.args.request.now in let limits = c.args.limits in
     let many : Err faults.TooMany ≡ c.from_residual.result → NeedsTooMany tree request limits = λ is.
     let made = rw (sym is) at c.from_residual.ensures in
@@ -41,8 +41,8 @@ returns-in_err-board g c =
     }
 
 -- the build stops at too many targets, or for want of memory
-pub returns-in_err-run_build : goal.returns-in_err-run_build
-returns-in_err-run_build g c =
+pub returns-in_err-run_build-clause-built : goal.returns-in_err-run_build-clause-built
+returns-in_err-run_build-clause-built g c =
     let tree = c.args.past.tree in let request = c.args.request.now in let limits = c.args.limits in
     let many : Err faults.TooMany ≡ c.from_residual-in_err-run_build.result → NeedsTooMany tree request limits = λ is.
     let made = rw (sym is) at c.from_residual-in_err-run_build.ensures in
@@ -60,8 +60,8 @@ returns-in_err-run_build g c =
     }
 
 -- the report is that of the build; where keeping is safe, it agrees with that of the sources
-pub returns : goal.returns
-returns g c =
+pub returns-clause-built : goal.returns-clause-built
+returns-clause-built g c =
     let run = c.in_ok-run_build.field-0 in
     let tree = c.args.past.tree in let request = c.args.request.now in let limits = c.args.limits in
     let P : Tree → List (List ℕ) → LimitsView → Type 0 = λ t r l. IsResultOn t r l run.0 in

@@ -1,4 +1,4 @@
-use Rattle.std.proofs.Common.{◌≡◌, ◌∙◌, ◌+◌, List, ap, length, map, subst, sym}
+use Rattle.std.proofs.Common.{◌≡◌, ◌∙◌, List, ap, length, map, subst, sym}
 use Rattle.std.specs.Prelude.{All}
 use Rattle.redo_rules.specs.Results.{IsGiven}
 use Rattle.redo_sync.specs.Relay.{RelayId, Taker}

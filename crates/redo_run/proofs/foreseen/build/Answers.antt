@@ -6,7 +6,7 @@ use Rattle.redo_run.specs.Skipping.{IsSoundOn, IsUnsafeOn}
 use Rattle.redo_core.specs.declared.opening.OpenFault.TheVariants as faults
 use Rattle.redo_tree.specs.Tree.{Tree}
 use Rattle.redo_run.proofs.ToldLemmas.{built, unbuilt_by}
-use Rattle.redo_run.proofs.directory.build.Goals as goal
+use Rattle.redo_run.proofs.foreseen.build.Goals as goal
 
 -- the report and the book are parts of the build's
 pub returns-clause-built : goal.returns-clause-built

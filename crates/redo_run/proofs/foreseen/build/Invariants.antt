@@ -1,4 +1,4 @@
-use Rattle.redo_run.proofs.directory.build.Given as goal
+use Rattle.redo_run.proofs.foreseen.build.Given as goal
 
 -- the build that the workers are at is that of the tree that was read
 abbrev pub ghosts-report_over : goal.ghosts-report_over
