@@ -150,12 +150,16 @@ data_pieces known numbers request rows =
     head_pieces known request rows ++ paths_pieces numbers rows ++ (of_data data_parts.Rows ∷ [])
     ++ series (member_pieces known numbers) 0 rows ++ of_data data_parts.End ∷ []
 
+-- the end of the data, the script that makes tables, and the beginning of another one
+unfoldable pub table_script_pieces : List Piece
+table_script_pieces =
+    of_data data_parts.Scripts ∷ Fixed parts.Table ∷ of_data data_parts.NextScript ∷ []
+
 -- the data, and the scripts
 unfoldable pub tail_pieces : Known → Numbers → List (List ℕ) → List Row → List Piece
 tail_pieces known numbers request rows =
-    (of_data data_parts.Begin ∷ []) ++ data_pieces known numbers request rows
-    ++ of_data data_parts.Scripts ∷ Fixed parts.Graph ∷ of_data data_parts.NextScript ∷ Fixed parts.Script
-    ∷ of_data data_parts.LastScript ∷ []
+    (of_data data_parts.Begin ∷ []) ++ data_pieces known numbers request rows ++ table_script_pieces
+    ++ Fixed parts.Graph ∷ of_data data_parts.NextScript ∷ Fixed parts.Script ∷ of_data data_parts.LastScript ∷ []
 
 -- What the numbers say
 

@@ -380,6 +380,10 @@ rows_pieces known all n (row ∷ rows) = row_pieces known all n row ++ rows_piec
 abbrev pub most_rows : ℕ
 most_rows = 500
 
+-- where there are more rows, a sentence that says so
+abbrev pub more_pieces : ℕ → List Piece
+more_pieces count = if nat_lt most_rows count then a_tag tags.More ∷ [] else []
+
 -- The page
 
 -- what each page begins with
@@ -395,7 +399,8 @@ top_pieces known told rows =
 -- the first rows, the frame of the graph, and the notes
 unfoldable pub table_pieces : Known → Told → List Row → List Piece
 table_pieces known told rows =
-    (Fixed parts.Middle ∷ []) ++ rows_pieces known rows 0 (take most_rows rows)
+    (Fixed parts.Middle ∷ []) ++ more_pieces (length rows)
+    ++ (Fixed parts.Heads ∷ []) ++ rows_pieces known rows 0 (take most_rows rows)
     ++ (Fixed parts.Frame ∷ []) ++ notes_pieces told.notes.now
 
 -- what is shown without the script

@@ -4,9 +4,11 @@ use Rattle.redo_list.specs.Lists.{state_word}
 use Rattle.redo_page.specs.Html.{escaped, quoted}
 use Rattle.redo_page.specs.declared.graph.TheConstants.{GRAPH}
 use Rattle.redo_page.specs.declared.head.TheConstants.{HEAD}
-use Rattle.redo_page.specs.declared.middle.TheConstants.{FRAME, MIDDLE}
+use Rattle.redo_page.specs.declared.list_script.TheConstants.{LIST_SCRIPT}
+use Rattle.redo_page.specs.declared.middle.TheConstants.{FRAME, HEADS, LIST_END, LIST_FORM, LIST_HEADS, MIDDLE}
 use Rattle.redo_page.specs.declared.script.TheConstants.{SCRIPT}
 use Rattle.redo_page.specs.declared.style.TheConstants.{STYLE}
+use Rattle.redo_page.specs.declared.table.TheConstants.{TABLE}
 use Rattle.redo_page.specs.declared.parts.Part.{Part}
 use Rattle.redo_page.specs.declared.parts.Part.TheVariants as parts
 use Rattle.redo_page.specs.declared.parts.Word.{Word}
@@ -69,6 +71,7 @@ tag_bytes tags.Cell = codes "<td>"
 tag_bytes tags.Blank = codes " "
 tag_bytes tags.LineEnd = codes "\n"
 tag_bytes tags.Top = codes "</style>\n<main>\n<header>\n<h1>"
+tag_bytes tags.More = codes "Without its script this page shows only the first 500."
 
 abbrev pub run_bytes : RunPart → List ℕ
 run_bytes run_parts.Begin = codes "redo report</h1>\n<p class=\"run\"><span>exit status "
@@ -151,19 +154,22 @@ data_bytes data_parts.Null = codes "null"
 abbrev pub list_bytes : ListPart → List ℕ
 list_bytes list_parts.Begin = codes "Out of date</h1>\n<dl class=\"sum\">\n<div><dt>exit status<dd>"
 list_bytes list_parts.Count = codes "</div>\n<div><dt>targets<dd>"
-list_bytes list_parts.Table = codes "</div>\n</dl>\n</header>\n<section id=\"targets\">\n<table class=\"list\">\n<thead><tr><th scope=\"col\">Path"
-list_bytes list_parts.Heads = codes "<th scope=\"col\">State<th scope=\"col\">Why\n<tbody>\n"
+list_bytes list_parts.Form = LIST_FORM.now
+list_bytes list_parts.Heads = LIST_HEADS.now
 list_bytes list_parts.Row = codes "<tr><th scope=\"row\"><bdi>"
 list_bytes list_parts.State = codes "</bdi><td>"
-list_bytes list_parts.End = codes "</table>\n</section>\n</main>\n"
+list_bytes list_parts.Data = LIST_END.now
 
 abbrev pub part_bytes : Part → List ℕ
 part_bytes parts.Head = HEAD.now
 part_bytes parts.Style = STYLE.now
 part_bytes parts.Middle = MIDDLE.now
+part_bytes parts.Heads = HEADS.now
 part_bytes parts.Frame = FRAME.now
+part_bytes parts.Table = TABLE.now
 part_bytes parts.Graph = GRAPH.now
 part_bytes parts.Script = SCRIPT.now
+part_bytes parts.ListScript = LIST_SCRIPT.now
 part_bytes (parts.Word it) = word_bytes it
 part_bytes (parts.Shown it) = shown_bytes it
 part_bytes (parts.Tag it) = tag_bytes it

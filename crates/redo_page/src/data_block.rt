@@ -8,7 +8,8 @@ ghost use Rattle.redo_page.specs.Data.{always_number as number_of_always, bytes_
 ghost use Rattle.redo_page.specs.Data.{data_pieces, ended_pieces, entries_pieces, head_pieces};
 ghost use Rattle.redo_page.specs.Data.{is_always as is_always_made, member_pieces, missing_after, missing_pieces};
 ghost use Rattle.redo_page.specs.Data.{numbers_pieces, paths_pieces, place_pieces};
-ghost use Rattle.redo_page.specs.Data.{reason_text, reasons_pieces, requested_in, series, tail_pieces};
+ghost use Rattle.redo_page.specs.Data.{reason_text, reasons_pieces, requested_in, series};
+ghost use Rattle.redo_page.specs.Data.{table_script_pieces, tail_pieces};
 ghost use Rattle.redo_page.specs.Parts.{Number, Quoted, of_data, text_of, written};
 ghost use Rattle.redo_page.specs.declared.parts.DataPart.TheVariants as data_parts;
 ghost use Rattle.redo_page.specs.inside.Links.{known_by};
@@ -36,14 +37,14 @@ pub(crate) struct Numbered<'a> {
 }
 
 /// Adds a fixed part of the data.
-fn push_part(out: &mut Writer, part: DataPart) -> Result<(), AllocError>
+pub(crate) fn push_part(out: &mut Writer, part: DataPart) -> Result<(), AllocError>
     ensures { OnOk result (out.new ≡ out.old ++ written (of_data part)) }
 {
     out.fixed(Part::Data(part))
 }
 
 /// Adds a comma before each member of a list but the first.
-fn push_comma(out: &mut Writer, place: usize) -> Result<(), AllocError>
+pub(crate) fn push_comma(out: &mut Writer, place: usize) -> Result<(), AllocError>
     ensures { OnOk result (out.new ≡ out.old ++ text_of (comma_pieces place)) }
 {
     if place == 0 {
@@ -368,6 +369,16 @@ fn push_data(
     push_part(out, DataPart::End)
 }
 
+/// Adds the end of the data, the script that makes tables, and the beginning of another one.
+#[tactic(auto, unfolding(crate::specs::Data::table_script_pieces))]
+pub(crate) fn push_table_script(out: &mut Writer) -> Result<(), AllocError>
+    ensures { OnOk result (out.new ≡ out.old ++ text_of table_script_pieces) }
+{
+    push_part(out, DataPart::Scripts)?;
+    out.fixed(Part::Table)?;
+    push_part(out, DataPart::NextScript)
+}
+
 /// Adds the data, and the scripts.
 #[tactic(auto, unfolding(crate::specs::Data::tail_pieces))]
 pub(crate) fn push_tail(
@@ -382,7 +393,7 @@ pub(crate) fn push_tail(
 {
     push_part(out, DataPart::Begin)?;
     push_data(alloc, out, told, request, rows)?;
-    push_part(out, DataPart::Scripts)?;
+    push_table_script(out)?;
     out.fixed(Part::Graph)?;
     push_part(out, DataPart::NextScript)?;
     out.fixed(Part::Script)?;

@@ -4,7 +4,6 @@
 pub(crate) const GRAPH: &[u8] = br##"
 'use strict';
 // What is drawn of a report, and where: functions that know nothing of a page.
-
 const WORDS = ['built', 'same', 'kept', 'failed', 'blocked', 'cyclic', 'source'];  // by the number of an outcome
 const BANDS = 8;    // so many columns at first: neighbouring heights share one
 const FEW = 12;     // so many requested or cyclic targets have boxes of their own
@@ -33,10 +32,8 @@ const kindOf = ({ rules, paths }, one) =>
 
 // Joins neighbouring heights to at most so many bands, those first that together have the fewest kinds of targets.
 function joinHeights(graph, bandsAtMost) {
-  const bands = [], size = Math.ceil(graph.steps / 128);
-  for (let low = 0; low < graph.steps; low += size) {
-    bands.push({ low, high: Math.min(low + size, graph.steps) - 1, kinds: new Set() });
-  }
+  const size = Math.ceil(graph.steps / 128), bands = Array.from({ length: Math.ceil(graph.steps / size) }, (_, at) =>
+    ({ low: at * size, high: Math.min((at + 1) * size, graph.steps) - 1, kinds: new Set() }));
   graph.heights.forEach((height, one) => {
     if (!graph.alone.has(one)) bands[Math.floor(height / size)].kinds.add(graph.words[one] + kindOf(graph, one));
   });
@@ -71,12 +68,7 @@ function boxOf(graph, members, level, parent) {
 // The boxes that a box falls into, by the next level that has more than one.
 function partsOf(graph, box) {
   for (let level = box.level + 1; !box.parts && level <= SINGLE; level++) {
-    const parts = new Map();
-    for (const one of box.members) {
-      const key = levels[level](graph, one);
-      if (!parts.has(key)) parts.set(key, []);
-      parts.get(key).push(one);
-    }
+    const parts = Map.groupBy(box.members, one => levels[level](graph, one));
     if (parts.size < 2 && level < SINGLE) continue;
     box.parts = [...parts.values()].map(members => boxOf(graph, members, level, box));
   }
@@ -142,16 +134,12 @@ function labelOf(graph, box) {
 
 // The edges between boxes, each once; `weight` is how many needs it stands for. One within a box is drawn for a cycle.
 function edgesOf(graph, boxes) {
-  const owner = new Int32Array(graph.paths.length), edges = [];
-  boxes.forEach(({ members }, number) => members.forEach(one => owner[one] = number));
-  boxes.forEach((from, number) => {
-    const weights = new Map();
-    for (const to of from.members.flatMap(one => graph.needs[one])) {
-      if (owner[to] !== number || from.word === 'cyclic') weights.set(owner[to], 1 + (weights.get(owner[to]) ?? 0));
-    }
-    for (const [to, weight] of weights) edges.push({ from, to: boxes[to], weight });
+  const owner = new Map(boxes.flatMap(box => box.members.map(one => [one, box])));
+  return boxes.flatMap(from => {
+    const needs = from.members.flatMap(one => graph.needs[one]).map(one => owner.get(one));
+    const outside = needs.filter(to => to !== from || from.word === 'cyclic');
+    return [...Map.groupBy(outside, to => to)].map(([to, { length }]) => ({ from, to, weight: length }));
   });
-  return edges;
 }
 // The boxes and edges within two steps of a box, one way and the other, with their steps.
 function near(edges, box) {

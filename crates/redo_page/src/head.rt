@@ -5,9 +5,12 @@ pub(crate) const HEAD: &[u8] = br##"<!doctype html>
 <html lang="en">
 <meta charset="utf-8">
 <meta http-equiv="Content-Security-Policy" content="default-src 'none';
-style-src 'sha256-KlS0pBay6F8YNfEnKDil3vdechlpTa8uruGOzJIz7DQ=';
-script-src 'sha256-e4Y6E1V6GcvR+MylKXrfwLcLlDHKcsf+uyzz25XRyzs=' 'sha256-qX+ylb5g4WIXnk1p7ZegWYf0fwQ1GRmCJO+FGOfgPbE=';
+style-src 'sha256-N75GKtVsTjiduLXE4ROC9MTBay6+xiH9tBtgVX6PdMs=';
+script-src 'sha256-74D5c9qLpxxQ+mFRgTMWzUbub57CPCL+R/5iocYsd/o='
+'sha256-AiFdIq62ypkda4mAj2cibL7si+w680wPp/88BB8lIa4='
+'sha256-tXethp3kOZq96p1dTFuTylTE2fqQ+Ht6iXPa+uAX7Zw='
+'sha256-U6V2YPENT3l4C47nEZPDQUvbWdtSyh6DYZhEu7JfR9o=';
 base-uri 'none'; form-action 'none'; require-trusted-types-for 'script'">
 <meta name="viewport" content="width=device-width">
-<title>redo report</title>
+<title>redo</title>
 <style>"##;

@@ -7,9 +7,11 @@ ghost use Rattle.redo_page.specs.Parts.{word_bytes};
 
 use crate::graph::GRAPH;
 use crate::head::HEAD;
-use crate::middle::{FRAME, MIDDLE};
+use crate::list_script::LIST_SCRIPT;
+use crate::middle::{FRAME, HEADS, LIST_END, LIST_FORM, LIST_HEADS, MIDDLE};
 use crate::script::SCRIPT;
 use crate::style::STYLE;
+use crate::table::TABLE;
 use redo_list::State;
 
 /// Bytes that are the same on each page where they stand.
@@ -18,14 +20,20 @@ pub(crate) enum Part {
     /// What each page begins with: its policy, up to its style.
     Head,
     Style,
-    /// What comes before the rows.
+    /// What comes before the table.
     Middle,
+    /// The heads of the table.
+    Heads,
     /// What comes after the rows: the frame of the graph.
     Frame,
-    /// The script that draws graphs.
+    /// The script that makes tables.
+    Table,
+    /// The script that groups and places what a graph has.
     Graph,
-    /// The script of the page.
+    /// The script of the page of a report.
     Script,
+    /// The script of the page of a list.
+    ListScript,
     /// The class of an outcome.
     Word(Word),
     /// An outcome as it is shown.
@@ -50,9 +58,12 @@ impl Part {
             Part::Head => HEAD,
             Part::Style => STYLE,
             Part::Middle => MIDDLE,
+            Part::Heads => HEADS,
             Part::Frame => FRAME,
+            Part::Table => TABLE,
             Part::Graph => GRAPH,
             Part::Script => SCRIPT,
+            Part::ListScript => LIST_SCRIPT,
             Part::Word(word) => word.bytes(),
             Part::Shown(word) => word.shown(),
             Part::Tag(tag) => tag.bytes(),
@@ -142,6 +153,8 @@ pub(crate) enum Tag {
     LineEnd,
     /// From the end of the style up to the heading.
     Top,
+    /// What tells that there are more rows.
+    More,
 }
 
 impl Tag {
@@ -159,6 +172,7 @@ impl Tag {
             Tag::Blank => b" ",
             Tag::LineEnd => b"\n",
             Tag::Top => b"</style>\n<main>\n<header>\n<h1>",
+            Tag::More => b"Without its script this page shows only the first 500.",
         }
     }
 }
@@ -372,7 +386,7 @@ pub(crate) enum DataPart {
     Paths,
     Rows,
     End,
-    /// The end of what the script has, up to the script that draws graphs.
+    /// The end of the data, up to the first script.
     Scripts,
     NextScript,
     LastScript,
@@ -412,12 +426,14 @@ pub(crate) enum ListPart {
     Begin,
     /// Up to how many targets are listed.
     Count,
-    Table,
+    /// The form, up to what tells that there are more rows.
+    Form,
     Heads,
     /// A row, up to its path.
     Row,
     State,
-    End,
+    /// The end of the table, up to the data.
+    Data,
 }
 
 impl ListPart {
@@ -427,12 +443,11 @@ impl ListPart {
         match self {
             ListPart::Begin => b"Out of date</h1>\n<dl class=\"sum\">\n<div><dt>exit status<dd>",
             ListPart::Count => b"</div>\n<div><dt>targets<dd>",
-            ListPart::Table =>
-                b"</div>\n</dl>\n</header>\n<section id=\"targets\">\n<table class=\"list\">\n<thead><tr><th scope=\"col\">Path",
-            ListPart::Heads => b"<th scope=\"col\">State<th scope=\"col\">Why\n<tbody>\n",
+            ListPart::Form => LIST_FORM,
+            ListPart::Heads => LIST_HEADS,
             ListPart::Row => b"<tr><th scope=\"row\"><bdi>",
             ListPart::State => b"</bdi><td>",
-            ListPart::End => b"</table>\n</section>\n</main>\n",
+            ListPart::Data => LIST_END,
         }
     }
 }

@@ -1,11 +1,9 @@
-//! The script of a page: its table and its graph, from the data.
+//! The script of the page of a report: what its table tells, and its graph, from the data.
 //! `bin/dev/page` writes its digest into the policy of the head.
 
 pub(crate) const SCRIPT: &[u8] = br##"
 'use strict';
-// What a reader sees and does: the head, the table, of which only the rows in view are there, and the graph.
-const find = (what, from = document) => from.querySelector(what);
-const all = (what, from = document) => [...from.querySelectorAll(what)];
+// The page of a report: what its table has, its failures, and its graph.
 const report = JSON.parse(find('#report').textContent), { count, paths, rows } = report;
 const graph = readGraph(report), { words } = graph;
 const BYTES = 1, CHANGES = 4, CREATES = 5, ALWAYS = 6, WHY = 7, REASON = 8;  // where a row has what
@@ -16,29 +14,16 @@ for (const [one, row] of rows.entries()) if (/^depends \d+$/.test(row[REASON])) 
   const need = graph.needs[one].find(to => /failed|blocked|cyclic/.test(words[to]));
   if (need !== undefined) row[REASON] = `needs ${paths[need]}`;
 }
-const nameOf = word => word === 'same' ? 'built the same' : word;
-const figures = number => number.toLocaleString('en');
-const many = (number, what) => `${figures(number)} ${what}${number === 1 ? '' : 's'}`;
-function make(name, attributes = {}, ...children) {
-  const isDrawn = /^(svg|g|rect|path|text|title)$/.test(name);
-  const made = isDrawn ? document.createElementNS('http://www.w3.org/2000/svg', name) : document.createElement(name);
-  for (const [key, value] of Object.entries(attributes)) made.setAttribute(key, value);
-  made.append(...children);
-  return made;
-}
-const button = (onclick, ...children) => Object.assign(make('button', { type: 'button' }, ...children), { onclick });
-const isolated = text => make('bdi', {}, text);
 const linkTo = one => make('a', { href: '#t' + one }, paths[one]);
-const sign = word => make('span', { class: 'sign ' + word, 'aria-hidden': 'true' }, SIGNS[word]);
 // Some of many nodes, and a button for more of the others.
 function some(list, limit, node = one => one) {
   const rest = list.length > limit + 1 ? list.slice(limit) : [];
   const nodes = list.slice(0, list.length - rest.length).flatMap(one => [node(one), ' ']);
   if (!rest.length) return nodes;
   const more = button(() => {
-    const others = some(rest, Math.min(limit * 10, 4000), node), elements = others.filter(one => one.matches);
+    const others = some(rest, Math.min(limit * 10, 4000), node);
     holder.replaceWith(...others);
-    const inside = elements.flatMap(one => [one, ...all('a', one)]);
+    const inside = others.flatMap(one => one.matches ? [one, ...all('a', one)] : []);
     inside.find(one => one.matches('a, button'))?.focus({ preventScroll: true });
   }, `and ${many(rest.length, 'other')}`), holder = rest[0].localName === 'li' ? make('li', {}, more) : more;
   more.className = 'more';
@@ -50,10 +35,7 @@ function cut(list, limit) {
   list[0]?.replaceWith(...some(list, limit));
 }
 
-// The head, and what stands above the table.
-const counts = Object.fromEntries(Object.keys(SIGNS).map(word => [word, 0]));
-for (const word of words) counts[word]++;
-const present = Object.keys(counts).filter(word => counts[word]);
+// The head.
 const explained = new Map();  // what explains a failure, by its id
 function headline({ failed, blocked, cyclic, built, same, kept, source }) {
   const bad = failed + blocked + cyclic, made = built + same;
@@ -77,17 +59,7 @@ function joinFailures() {
   }
   for (const one of all('#failures [id]')) explained.set(one.id, one);
 }
-function fillHead() {
-  const bar = make('div', { class: 'bar', 'aria-hidden': 'true' }), text = headline(counts);
-  document.title = text + ' \u2013 redo';
-  find('h1').replaceChildren(sign(present[0] ?? 'kept'), ' ', text);
-  find('h1').after(bar);
-  for (const word of present) {
-    bar.append(make('i', { class: word }));
-    bar.lastChild.style.flexGrow = counts[word];
-    find(`.sum .${word} dt`)?.prepend(sign(word), ' ');
-    find(`.sum .${word} dd`)?.replaceChildren(figures(counts[word]));
-  }
+function cutLists() {
   joinFailures();
   cut(all('.request bdi'), 6);
   for (const article of all('#failures article')) cut(all('.also', article), 4);
@@ -96,116 +68,33 @@ function fillHead() {
   cut(all('#notes li'), 12);
 }
 
-// The table. `shown` are the targets that the form lets through, in order.
-const form = find('form'), table = find('table'), body = table.tBodies[0], frame = find('#scroll');
-const WHOLE = 400, BOXES = 40;  // so many rows are all there, and so many boxes at first
-const open = new Set(), made = new Map();  // targets whose records are shown, and by target the rows in the page
-const place = new Int32Array(count);  // where a target is among those shown; else -1
-const order = [...rows.keys()];
-let shown = [], column = 0, ascending = 1, lower;
-let drawn, picked;  // the graph, when it is there, and a box of it
-// What the form lets through.
-function filter() {
-  const word = form.elements.word.value.toLowerCase(), isDeep = form.elements.deep.checked;
-  const members = picked && new Set(picked.members), chosen = all('.words :checked').map(({ value }) => value);
+// The table.
+let lower, drawn, picked;  // paths in lower case, and the graph, when it is there, and a box of it
+// What a word and the picked box let through.
+function finder(word) {
+  const isDeep = form.elements.deep.checked, members = picked && new Set(picked.members);
   lower ??= paths.map(path => path.toLowerCase());
-  const found = word && lower.map(path => path.includes(word)), isFound = one => found[one];
+  const found = lower.map(path => path.includes(word)), isFound = one => found[one];
   const isInRecord = row => [...row[CHANGES], ...row[CREATES]].some(isFound)
     || (row[WHY] + '\n' + row[REASON]).toLowerCase().includes(word);
-  return one => (!chosen.length || chosen.includes(words[one])) && (!members || members.has(one))
-    && (!word || found[one] || isDeep && isInRecord(rows[one]));
-}
-function show() {
-  shown = order.filter(filter());
-  place.fill(-1);
-  shown.forEach((one, at) => place[one] = at);
-  find('output').textContent = (shown.length < count ? `${figures(shown.length)} of ` : '') + many(count, 'target');
-  find('#only').hidden = !picked;
-  find('#only').replaceChildren(...picked ? ['only ', isolated(labelOf(graph, picked)), ' \u2715'] : []);
-  table.setAttribute('aria-rowcount', shown.length + 1);
-  frame.scrollTop = 0;
-  render();
-  mark();
-}
-// Makes the rows in view, and gaps for the others. Those that are open, wanted or have the focus are always there.
-function render(wanted, limit = WHOLE) {
-  const height = 2 * parseFloat(getComputedStyle(document.documentElement).fontSize), isWhole = shown.length <= limit;
-  let top = frame.scrollTop, next = 0;
-  for (const { offsetTop, offsetHeight } of all('.record', body)) {
-    top -= Math.max(0, Math.min(offsetHeight, frame.scrollTop - offsetTop));
-  }
-  const visible = Math.floor(top / height), first = isWhole ? 0 : Math.max(0, visible - 10);
-  const last = isWhole ? shown.length : Math.min(shown.length, first + 20 + Math.ceil(innerHeight / height));
-  const held = document.activeElement?.closest('tbody tr')?.number, nodes = [];
-  const always = [...open, held, wanted].map(one => place[one]).filter(at => at >= 0);
-  const spots = new Set([...Array.from({ length: last - first }, (_, at) => first + at), ...always]);
-  for (const at of [...spots].sort((a, b) => a - b)) {
-    if (at > next) nodes.push(gap((at - next) * height));
-    const one = shown[at], row = made.get(one) ?? rowOf(one);
-    made.set(one, row);
-    row[0].setAttribute('aria-rowindex', at + 2);
-    find('button', row[0]).tabIndex = at === (place[held] >= 0 ? place[held] : visible) ? 0 : -1;
-    nodes.push(...row);
-    next = at + 1;
-  }
-  if (next < shown.length) nodes.push(gap((shown.length - next) * height));
-  put(nodes);
-}
-function gap(height) {
-  const tr = make('tr', { class: 'gap', 'aria-hidden': 'true' }, make('td', { colspan: 4 }));
-  tr.firstChild.style.height = height + 'px';
-  return tr;
-}
-// Puts rows into the table. Those that are there aren't moved, so that the focus stays.
-function put(nodes) {
-  const kept = new Set(nodes);
-  for (const tr of [...body.rows]) if (!kept.has(tr)) tr.remove();
-  for (const [one, [tr]] of made) if (!kept.has(tr)) made.delete(one);
-  let at = body.firstChild;
-  for (const tr of nodes) {
-    if (tr === at) at = at.nextSibling;
-    else body.insertBefore(tr, at);
-  }
+  return one => (!members || members.has(one)) && (found[one] || isDeep && isInRecord(rows[one]));
 }
 const bytesOf = one => figures(rows[one][BYTES] ?? (/built|same|kept/.test(words[one]) ? 'none' : ''));
-function rowOf(one) {
-  const row = rows[one], word = words[one], path = paths[one], name = directory(path).length, isOpen = open.has(one);
-  const fold = button(() => toggle(one), isolated(path.slice(0, name)), isolated(path.slice(name)));
-  Object.assign(fold, { title: path, ariaLabel: path, ariaExpanded: isOpen });
-  const reason = explained.has('f' + one) ? make('a', { href: '#f' + one }) : make('small');
+function cellsOf(one) {
+  const row = rows[one], reason = explained.has('f' + one) ? make('a', { href: '#f' + one }) : make('small');
   reason.append(row[REASON]);
-  const tr = make('tr', { class: word, id: 't' + one }, make('th', { scope: 'row' }, fold),
-    make('td', { title: row[REASON] }, sign(word), ` ${nameOf(word)} `, reason), make('td', {}, bytesOf(one)),
-    make('td', { title: row[WHY] }, row[WHY]));
-  const trs = isOpen ? [tr, make('tr', { class: 'record' }, make('td', { colspan: 4 }, recordOf(one)))] : [tr];
-  return trs.map(tr => Object.assign(tr, { number: one }));
+  const outcome = make('td', { title: row[REASON] }, ...signed(words[one]), reason);
+  return [outcome, make('td', {}, bytesOf(one)), cell(row[WHY])];
 }
-function part(name, list, node, limit = 40) {
-  return list.length ? [make('dt', {}, name), make('dd', {}, ...some(list, limit, node))] : [];
-}
+const part = (name, list, node, limit = 40) => list.length ? term(name, ...some(list, limit, node)) : [];
 function recordOf(one) {
-  const row = rows[one], word = nameOf(words[one]);
-  const toPath = to => to < count ? linkTo(to) : isolated(paths[to]);
+  const row = rows[one], word = nameOf(words[one]), toPath = to => to < count ? linkTo(to) : isolated(paths[to]);
   const text = (name, it) => part(name, it ? [it] : [], isolated);
-  return make('dl', {}, ...text('outcome', row[REASON] ? `${word}: ${row[REASON]}` : word),
+  return [...text('outcome', row[REASON] ? `${word}: ${row[REASON]}` : word),
     ...text('bytes', bytesOf(one)), ...text('begun', row[WHY]), ...part('rule', row[CHANGES].slice(0, 1), toPath),
     ...part('needs', row[CHANGES].slice(1), toPath), ...part('needs missing', row[CREATES], toPath),
     ...text('always', row[ALWAYS] && 'made in each run'), ...part('needed by', graph.users[one], linkTo),
-    ...count > 1 ? [make('dd', {}, button(() => isolate(one), 'Show in the graph'))] : []);
-}
-function toggle(one) {
-  if (!open.delete(one)) open.add(one);
-  for (const tr of made.get(one) ?? []) tr.remove();
-  made.delete(one);
-  focusRow(one);
-}
-function focusRow(one) {
-  render(one);
-  const trs = made.get(one), highest = trs[0].offsetTop - table.tHead.offsetHeight;
-  const lowest = trs.at(-1).offsetTop + trs.at(-1).offsetHeight - frame.clientHeight;
-  frame.scrollTop = Math.min(highest, Math.max(frame.scrollTop, lowest));
-  find('button', trs[0]).focus({ preventScroll: true });
-  render();
+    ...count > 1 ? [make('dd', {}, button(() => isolate(one), 'Show in the graph'))] : []];
 }
 // What the address names: a target, or a failure that may be cut away.
 function reveal() {
@@ -220,41 +109,6 @@ function reveal() {
   open.delete(one);
   toggle(one);
   frame.scrollIntoView({ block: 'nearest' });
-}
-function startTable() {
-  find('.words').append(...present.map(word => make('label', {}, make('input', { type: 'checkbox', value: word }),
-    sign(word), ` ${nameOf(word)} `, make('b', {}, figures(counts[word])))));
-  form.oninput = show;
-  form.onsubmit = event => event.preventDefault();
-  find('#only').onclick = () => {
-    pick();
-    frame.focus({ preventScroll: true });  // the button has gone
-  };
-  form.hidden = false;
-  const heads = all('th', table.tHead);
-  const keys = [one => one, one => present.indexOf(words[one]), one => rows[one][BYTES] ?? -1,
-    one => rows[one][WHY] || '\uffff'];
-  const sort = number => {
-    ascending = column === number ? -ascending : 1;
-    column = number;
-    for (const head of heads) head.ariaSort = null;
-    heads[number].ariaSort = ascending > 0 ? 'ascending' : 'descending';
-    const key = rows.map((_, one) => keys[number](one));
-    order.sort((a, b) => ascending * ((key[a] > key[b]) - (key[a] < key[b])) || a - b);
-    show();
-  };
-  heads.forEach((head, number) => head.append(button(() => sort(number), ...head.childNodes)));
-  heads[0].ariaSort = 'ascending';
-  body.replaceChildren();
-  frame.classList.add('ready');
-  frame.onscroll = () => requestAnimationFrame(() => render());
-  body.onkeydown = event => {
-    const steps = { ArrowDown: 1, ArrowUp: -1, PageDown: 20, PageUp: -20, Home: -Infinity, End: Infinity }[event.key];
-    const at = place[event.target.closest('tr[id]')?.number];
-    if (!steps || at === undefined) return;
-    event.preventDefault();
-    focusRow(shown[Math.max(0, Math.min(shown.length - 1, at + steps))]);
-  };
 }
 
 // The graph.
@@ -289,11 +143,11 @@ function draw() {
   reach(picked ?? boxes[0]);
 }
 // Makes a box the one that Tab goes to.
-function reach(box) {
-  for (const { node } of boxes) node.setAttribute('tabindex', node === box.node ? 0 : -1);
-}
+const reach = box => boxes.forEach(({ node }) => node.setAttribute('tabindex', node === box.node ? 0 : -1));
 // What is picked or searched stands out.
 function mark() {
+  find('#only').hidden = !picked;
+  find('#only').replaceChildren(...picked ? ['only ', isolated(labelOf(graph, picked)), ' \u2715'] : []);
   if (!drawn) return;
   const steps = picked ? near(drawn.edges, picked) : new Map(), isSearched = shown.length < count;
   svg.classList.toggle('some', !!picked);
@@ -301,8 +155,7 @@ function mark() {
   for (const box of boxes) {
     const isOff = picked ? !steps.has(box) : isSearched && !box.members.some(one => place[one] >= 0);
     box.node.classList.toggle('off', isOff);
-    box.node.classList.toggle('picked', box === picked);
-    box.node.setAttribute('aria-pressed', box === picked);
+    box.node.ariaPressed = box === picked;
   }
 }
 function pick(box) {
@@ -372,10 +225,11 @@ function fit(least = 0) {
 }
 function start() {
   for (const one of all('#graph, .go a')) one.hidden = false;
-  boxes = firstBoxes(graph, BOXES);
+  boxes = firstBoxes(graph, 40);
   picked = undefined;
   draw();
   fit(.8);
+  tell();  // before `pick`, which keeps the picture where it is
   pick();
   const worst = boxes.find(({ word }) => word === 'failed') ?? boxes.find(({ word }) => word === 'cyclic');
   const { x, y } = drawn.cells.get(worst) ?? { x: 0, y: 0 };
@@ -420,17 +274,17 @@ function beside(box, key) {
     side ? (column - here.column) * side > 0 : column === here.column && (y - here.y) * down > 0);
   return others.sort((a, b) => far(a) - far(b))[0]?.[0];
 }
-
-onresize = onafterprint = () => render();
 onhashchange = reveal;
 onclick = ({ target }) => {
   if (target.closest('a')?.hash === location.hash) reveal();
 };
-onbeforeprint = () => render(undefined, 1000);
-fillHead();
-startTable();
+find('#only').onclick = () => { pick(); frame.focus({ preventScroll: true }); };  // the button has gone
+cutLists();
+startTable({
+  paths, words, signs: SIGNS, headline, finder, cells: cellsOf, record: recordOf, onshow: mark,
+  keys: [one => rows[one][BYTES] ?? -1, one => rows[one][WHY] || '\uffff'],
+});
 startGraph();
-show();
 requestAnimationFrame(() => setTimeout(() => {  // after the browser has gone to what the address names
   if (count > 1) start();
   reveal();

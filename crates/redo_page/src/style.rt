@@ -24,12 +24,13 @@ a, bdi, pre, dd, summary { overflow-wrap: anywhere; unicode-bidi: isolate; white
 [hidden] { display: none !important }
 
 /* What happened, and to how many. */
-.failed { color: var(--failed) } .blocked { color: var(--blocked) } .cyclic { color: var(--cyclic) }
-.built { color: var(--built) } .same { color: var(--same) } .kept, .source, .none { color: var(--dim) }
+.failed, .lost, .unknown { color: var(--failed) } .blocked { color: var(--blocked) }
+.cyclic, .ring { color: var(--cyclic) } .built, .new { color: var(--built) } .same, .stale { color: var(--same) }
+.kept, .maybe, .source, .none { color: var(--dim) }
 .sign { display: inline-block; width: 1.1em; text-align: center }
 .bar { display: flex; gap: 2px; height: 10px; margin: .6rem 0 .4rem; print-color-adjust: exact }
 .bar i { min-width: 6px; background: currentColor; border-radius: 2px }
-.bar .kept, .bar .source { color: var(--rule) }
+.bar .kept, .bar .maybe, .bar .source { color: var(--rule) }
 .run { display: flex; flex-wrap: wrap; gap: .1rem 1.25rem; color: var(--dim) }
 .run bdi { color: var(--ink) }
 .request bdi:not(:last-of-type)::after { content: "," }
@@ -48,12 +49,14 @@ pre { margin: .25rem 0; padding: .25rem .75rem; background: var(--soft); tab-siz
 pre i { padding-right: 1.5ch; color: var(--dim); font-style: normal; user-select: none }
 mark { background: none; color: inherit; font-weight: 700; text-decoration: underline 2px var(--failed) }
 mark:empty::before { content: "\a0" }
-.ring { position: relative; margin: .75rem 0 .25rem; padding: 0 0 0 2rem; list-style: none }
-.ring::before { content: ""; position: absolute; inset: .7rem auto .7rem .25rem; width: 1.25rem; color: var(--cyclic);
+ol.ring { position: relative; margin: .75rem 0 .25rem; padding: 0 0 0 2rem; list-style: none;
+  color: inherit }
+ol.ring::before { content: ""; position: absolute; inset: .7rem auto .7rem .25rem; width: 1.25rem; color: var(--cyclic);
   border: 2px solid; border-right: 0; border-radius: .75rem 0 0 .75rem }
-.ring::after { content: "\25b8" / ""; position: absolute; top: 0; left: 1.25rem; color: var(--cyclic) }
-.ring li:not(:last-child)::after { content: "\2193" / "needs"; display: block; line-height: 1.1; color: var(--cyclic) }
-.ring > :only-child { padding-bottom: 1rem }
+ol.ring::after { content: "\25b8" / ""; position: absolute; top: 0; left: 1.25rem; color: var(--cyclic) }
+ol.ring li:not(:last-child)::after { content: "\2193" / "needs"; display: block; line-height: 1.1;
+  color: var(--cyclic) }
+ol.ring > :only-child { padding-bottom: 1rem }
 
 /* The table: as it stands, and as the script makes it, with rows of one height. */
 button, input { color: inherit; font: inherit }
@@ -76,9 +79,12 @@ thead th:first-child { width: 38% }
 thead th:nth-child(2) { width: 25% }
 thead th:nth-child(3) { width: 6.5rem }
 tr > :nth-child(3) { text-align: right; font-variant-numeric: tabular-nums }
-.list thead th:nth-child(2) { width: 7rem }
+.list thead th:first-child { width: 34% }
+.list thead th:nth-child(2) { width: 7.5rem }
 .list thead th:nth-child(3) { width: auto }
 .list tr > :nth-child(3) { text-align: left }
+.list td { line-height: 1.5rem }
+.list td:nth-child(3) { font-size: .9rem }
 tbody th { color: var(--ink) }
 td:nth-child(n + 3), small { color: var(--dim) }
 small { font-size: .85em }
@@ -107,6 +113,7 @@ dl { display: grid; grid-template-columns: max-content 1fr; align-items: baselin
   margin: .25rem 0 .5rem }
 dt { color: var(--dim); font-size: .9rem }
 dd { grid-column: 2; margin: 0 }
+.record dl { align-items: start }
 .record dd > *, .by a { display: inline-block; margin-right: .75rem; white-space: pre-wrap }
 
 /* The graph. */
@@ -127,7 +134,7 @@ svg .built > rect, svg .same > rect { stroke-width: 1.6 }
 svg g > text:first-of-type { fill: currentColor }
 svg .plus rect { fill: var(--soft); stroke: none }
 svg .plus:hover rect { fill: var(--rule) }
-svg .picked > rect { fill: var(--soft); stroke-width: 3 }
+svg [aria-pressed=true] > rect { fill: var(--soft); stroke-width: 3 }
 svg :focus-visible > rect:not(.stack) { stroke: var(--link); stroke-width: 3; stroke-dasharray: none }
 svg path { fill: none; stroke: var(--dim); opacity: .45 }
 svg path.cyclic { stroke: var(--cyclic); opacity: 1 }
@@ -145,12 +152,18 @@ svg .off text { fill: var(--dim) }
 @media (max-width: 44rem) {
   main { padding: .75rem }
   h1 { font-size: 1.3rem }
-  th, td, .ready tr > * { padding: .2rem .4rem }
+  th, td { padding: .2rem .4rem }
+  .ready tr > * { padding: 0 .4rem }
   table:not(.list) tr > :nth-child(n + 3) { display: none }
   thead th:first-child { width: 58% }
   thead th:nth-child(2) { width: 42% }
   .list thead th:first-child { width: 36% }
-  .list thead th:nth-child(2) { width: 5.5rem }
+  .list thead th:nth-child(2) { width: 6.5rem }
+  .ready .list thead th:first-child { width: 40% }
+  .ready .list thead th:nth-child(2) { width: 3.2rem }
+  .ready .list th:nth-child(2) button { font-size: .75rem }
+  .ready .list td:nth-child(2) { font-size: 0 }  /* for eyes the sign alone */
+  .ready .list .sign { font-size: 1rem; vertical-align: top }
   label:has([type=search]), input[type=search] { width: 100% }
 }
 @media print {

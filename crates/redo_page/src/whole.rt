@@ -2,7 +2,7 @@
 
 ghost use Rattle.std.specs.Prelude.{◌≡◌, ◌++◌, IfOk, List, OnOk, flat_map, take, ℕ};
 ghost use Rattle.redo_page.specs.Html.{Reads, ReadsString, escaped, in_string, shown};
-ghost use Rattle.redo_page.specs.Pages.{begin_pieces, most_rows, shown_pieces, table_pieces, top_pieces};
+ghost use Rattle.redo_page.specs.Pages.{begin_pieces, more_pieces, most_rows, shown_pieces, table_pieces, top_pieces};
 ghost use Rattle.redo_page.specs.Parts.{text_of};
 ghost use Rattle.redo_page.specs.Whole.{IsPage, page_pieces};
 ghost use Rattle.redo_page.specs.inside.Grouping.{numbers_in};
@@ -73,8 +73,18 @@ fn push_top(
     push_rings(out, links, told.rings)
 }
 
+/// Adds that there are more rows, if there are.
+pub(crate) fn push_more(out: &mut Writer, count: usize) -> Result<(), AllocError>
+    ensures { OnOk result (out.new ≡ out.old ++ text_of (more_pieces count)) }
+{
+    if count > MOST_ROWS {
+        out.fixed(Part::Tag(Tag::More))?;
+    }
+    Ok(())
+}
+
 /// The first of these rows.
-fn first_of(rows: &[Row]) -> &[Row]
+pub(crate) fn first_of<T>(rows: &[T]) -> &[T]
     ensures { result.now ≡ take most_rows rows.now }
 {
     if rows.len() > MOST_ROWS {
@@ -96,6 +106,8 @@ fn push_table(
     ensures { OnOk result (out.new ≡ out.old ++ text_of (table_pieces (known_by links.now) told.now rows.now)) }
 {
     out.fixed(Part::Middle)?;
+    push_more(out, rows.len())?;
+    out.fixed(Part::Heads)?;
     push_rows(alloc, out, links, rows, first_of(rows))?;
     out.fixed(Part::Frame)?;
     push_notes(alloc, out, told.notes)
