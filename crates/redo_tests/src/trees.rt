@@ -9,7 +9,7 @@ use redo_bundle::{Plain, read_bundle};
 use redo_core::permit::Permit;
 use redo_path::{Path, resolve};
 use redo_report::{Report, report_text};
-use redo_run::{BuildBrand, Host, NoObserver, Observer, RunFault, build_many};
+use redo_run::{BuildBrand, Host, NoObserver, Observer, ROUNDS, RunFault, build_many};
 use redo_step::Limits;
 use redo_tree::Tree;
 use std::alloc::Global;
