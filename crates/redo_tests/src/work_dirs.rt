@@ -118,21 +118,23 @@ fn each_call_that_fails_is_told(rt: HostRuntime) -> Result<(), Fail> {
     let alloc = rt.alloc();
     let mut whole = small_dir(alloc)?;
     let _all = ran(&mut host_of(&rt), &mut whole, "below/b a", 1)?;
-    // Two directories are listed, six names and the places of book and journal looked at, and four files read. The
-    // journal is written, two files are written and named, and the journal becomes the book.
+    // Two directories are listed, and six names looked at. Then four files are read, and the places of book and journal
+    // looked at; where that fails, it is made again, for the files that are needed. The journal is written, two files are
+    // written and named, and the journal becomes the book.
     assert_eq!(rt; whole.calls(), 20);
     for call in 1..21u64 {
         let mut dir = small_dir(alloc)?;
         dir.fails_at = call;
         let outcome = ran(&mut host_of(&rt), &mut dir, "below/b a", 1)?;
         let (expected, done) = match call {
-            1..=14 => (RunDirFault::Load, 0),
-            15 => (RunDirFault::Journal, 0),
-            16 | 17 => (RunDirFault::Store(0), 1),
-            18 | 19 => (RunDirFault::Store(1), 2),
-            _ => (RunDirFault::Store(2), 3),
+            1..=8 => (Err(RunDirFault::Load), 0),
+            9..=14 => (Ok((Exit::Good, 1)), 4),
+            15 => (Err(RunDirFault::Journal), 0),
+            16 | 17 => (Err(RunDirFault::Store(0)), 1),
+            18 | 19 => (Err(RunDirFault::Store(1)), 2),
+            _ => (Err(RunDirFault::Store(2)), 3),
         };
-        assert_eq!(rt; outcome, Err(expected));
+        assert_eq!(rt; outcome, expected);
         assert_eq!(rt; dir.done.len(), done);
     }
     Ok(())
