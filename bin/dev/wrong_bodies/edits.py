@@ -64,6 +64,17 @@ def applied(edits, texts):
     return after, "it changes nothing" if all(after[path] == texts[path] for path in after) else ""
 
 
+def together(edits, texts):
+    """The texts, by their paths, of the files that a round's edits change. A new text goes where the old one stands in
+    the code as it is: what another edit puts in may have that text, too."""
+    after = {}
+    changes = [it for edit in edits for it in edit.changes]
+    for change in sorted(changes, key=lambda it: -texts[it.path].index(it.old)):
+        text, start = after.get(change.path, texts[change.path]), texts[change.path].index(change.old)
+        after[change.path] = text[:start] + change.new + text[start + len(change.old) :]
+    return after
+
+
 def read_edit(crate, path):
     """The edit of a file."""
     with open(path, "rb") as file:

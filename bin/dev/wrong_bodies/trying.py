@@ -8,7 +8,7 @@ from queue import SimpleQueue
 from threading import Lock
 
 from . import judging
-from .edits import applied, owner, texts_for
+from .edits import applied, owner, texts_for, together
 from .judging import BAD, LEFT, UNTRIED, Verdict
 from .names import Functions
 from .rounds import placed, rounds, size
@@ -104,7 +104,7 @@ class Subject:
     def check(self, edits, only=()):
         """A check with these edits, and the files that they change. One that was killed, for memory most likely, is
         made once more."""
-        texts, _ = applied(edits, self.texts)
+        texts = together(edits, self.texts) if only else applied(edits, self.texts)[0]
         for _ in range(2):
             said = self.kit.check(self.crate, texts, only)
             with self.counting:
