@@ -114,10 +114,18 @@ def texts_for(folder, edits):
 
 
 def owner(edit, functions, texts):
-    """The function in whose body the edit changes one place, or None where there is no such function."""
-    if edit.fault or len(edit.changes) != 1 or not edit.changes[0].path.startswith("src/"):
+    """The function in whose body all changes of the edit stand, or None where there is no such function."""
+    found = [] if edit.fault else [function_of(it, functions, texts) for it in edit.changes]
+    # (a later change may be one of what an earlier one put in)
+    is_one = found and found.count(found[0]) == len(found) and found[0]
+    return found[0] if is_one and together([edit], texts) == applied([edit], texts)[0] else None
+
+
+def function_of(change, functions, texts):
+    """The function in whose body the change's old text stands, or None where there is no such function."""
+    text = texts[change.path]
+    if not change.path.startswith("src/") or text.count(change.old) != 1:
         return None
-    change = edit.changes[0]
-    line = texts[change.path].count("\n", 0, texts[change.path].index(change.old))
+    line = text.count("\n", 0, text.index(change.old))
     found = functions.at(change.path, line)
     return found if found and line >= found.body else None

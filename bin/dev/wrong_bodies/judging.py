@@ -37,7 +37,7 @@ LIMITS = re.compile(r"antt ran out of (stack|the (steps|memory) that the check o
                     r"|(outgrew the memory limit|stopped at the step limit) \(")
 UNREAD = re.compile(r"is not in scope|has no field|is no name|operand is missing|expected the end|cannot continue")
 # The last line of a check that came to its end.
-ENDED = re.compile(r"(only=\d+ proved=\d+|logic=(not-)?proved\b.*)$")
+ENDED = re.compile(r"(only=\d+ holes=\d+|logic=(not-)?proved\b.*)$")
 
 
 def is_ended(said):
@@ -62,6 +62,12 @@ def unread(said, changed):
             if not error[1] or UNREAD.search(re.sub(r"`[^`]*`", "", error[2])):
                 return f"{path}: {words}"
     return ""
+
+
+def errors(said):
+    """The files and lines of the errors in code."""
+    found = MESSAGE.findall(said.text)
+    return [(path, int(line)) for path, line, words in found if path.startswith("src/") and words.startswith("error")]
 
 
 def inside(name):

@@ -64,18 +64,27 @@ class Kit:
         """Has what is started later end with this process, however it ends. To be called in the main thread."""
         self.lib.guarded()
 
+    def left(self, crate):
+        """The folder where checks of the crate leave what they have checked, each for those that follow."""
+        return f"{os.path.dirname(os.path.dirname(crate.folder))}/checked-{crate.name}"
+
+    def forget(self, crate):
+        """Removes what checks of the crate have left."""
+        shutil.rmtree(self.left(crate), ignore_errors=True)
+
     def check(self, crate, texts, only=()):
-        """Checks the crate from nothing with these texts in place of its own, whole or these functions alone. Proofs
-        that others wait for go first."""
+        """Checks the crate with these texts in place of its own, whole or these functions alone; where None stands for
+        a text, there is no such file. It takes what earlier checks have left that is still up to date. Proofs that
+        others wait for go first."""
         words = ["nice", "-n", "19", self.lib.RATTLE, "check", *crate.words(["--jobs", "1"], keeps=False)]
+        words += ["--incremental", self.left(crate), *(["--allow-holes"] if only else [])]
         words += [word for name in only for word in ("--only", name)]
-        with tempfile.TemporaryDirectory(prefix="check-", dir=os.path.dirname(os.path.dirname(crate.folder))) as room:
+        with tempfile.TemporaryDirectory(prefix="check-", dir=os.path.dirname(self.left(crate))) as room:
             for part in self.lib.PARTS:
                 if os.path.isdir(f"{crate.folder}/{part}"):
                     shutil.copytree(f"{crate.folder}/{part}", f"{room}/{part}")
             for path, text in texts.items():
-                with open(f"{room}/{path}", "w", encoding="utf-8") as file:
-                    file.write(text)
+                put(f"{room}/{path}", text)
             return self.run(words, room)
 
     def run(self, words, folder, each=lambda line: None):
@@ -111,6 +120,17 @@ class Kit:
                 each(done[1])
 
         return self.run([self.program, "ci"], top, told)
+
+
+def put(path, text):
+    """Writes a file, or sees to it that there is none, where the text is None."""
+    if text is None:
+        with contextlib.suppress(FileNotFoundError):
+            os.remove(path)
+    else:
+        os.makedirs(os.path.dirname(path), exist_ok=True)
+        with open(path, "w", encoding="utf-8") as file:
+            file.write(text)
 
 
 def with_below(crates):

@@ -1,11 +1,8 @@
-"""The functions of a crate, read off its text: their names as a check prints them, and which ones each may call. The
-text is laid out by `rt fmt`, so a function ends at a brace that stands as far in as the function does.
-
-A function that may be called and isn't seen here costs time, and no verdict: two edits of which one function calls the
-other come into one round, and the one that then shows nothing is tried alone."""
+"""The functions of a crate, read off its text: their names as a check prints them, and where they stand. The text is
+laid out by `rt fmt`, so a function ends at a brace that stands as far in as the function does."""
 
 import re
-from dataclasses import dataclass, field
+from dataclasses import dataclass
 
 HEAD = re.compile(r"( *)(?:pub(?:\([a-z]+\))? )?(?:const |unsafe |async )*fn (\w+)")
 TYPE = re.compile(r"^(?:pub(?:\([a-z]+\))? )?(?:struct|enum) (\w+)", re.M)
@@ -13,21 +10,6 @@ TYPE = re.compile(r"^(?:pub(?:\([a-z]+\))? )?(?:struct|enum) (\w+)", re.M)
 IMPL = re.compile(r"(?:unsafe )?impl\b")
 TRAIT = re.compile(r"(?:pub(?:\([a-z]+\))? )?(?:unsafe )?trait (\w+)")
 TEXT = re.compile(r'//[^\n]*|b?r#"[\s\S]*?"#|b?"(?:\\[\s\S]|[^"\\])*"|b?\'(?:\\.[^\']*|[^\\\'\n])\'')
-# A name in code, with the path before it, what stands in front, and whether a bracket follows.
-NAME = re.compile(r"(\.\s*)?((?:\w+(?:::<[^<>;(){}]*>)?::)*)(\w+)(?:::<[^;(){}]*?>)?(\()?")
-
-# What calls a method that the text doesn't name.
-UNSEEN = {
-    "eq": r"[=!]=|\bcontains\b|\bstarts_with\b|\bmatches!",
-    "cmp": r" [<>]=? |\bsort|\bbinary_search|\bmin\b|\bmax\b|\bBTree|\bpartition_point\b",
-    "partial_cmp": r" [<>]=? ",
-    "fmt": r"\b\w*(?:format|write|print)\w*!|\bto_string\b",
-    "from": r"\?|\binto\b",
-    "next": r"\bfor\b|\.(?:map|filter\w*|collect|any|all|find|position|count|fold|zip|chain|rev|enumerate|extend)\b",
-    "into_iter": r"\bfor\b|\bextend\b",
-    "clone": r"\bcloned\b|\bclone\b",
-    "drop": r"",
-}
 
 
 def without_texts(text):
@@ -38,8 +20,8 @@ def without_texts(text):
 @dataclass
 class Function:
     """A function: its full name, its last name, the type and the trait that it stands in (or ""), its file, the number
-    of its first line and of the one behind its last, the number of the line where its body begins, its body, the name
-    under which it is proved if it calls itself, and the names of those that it may call."""
+    of its first line and of the one behind its last, the number of the line where its body begins (the same, where it
+    has none), and the name under which it is proved if it calls itself."""
 
     name: str
     last: str
@@ -49,9 +31,10 @@ class Function:
     first: int
     end: int
     body: int
-    code: str
     cycle: str
-    called: set = field(default_factory=set)
+
+    def has_body(self):
+        return self.body < self.end
 
 
 def module_of(crate, path):
@@ -163,8 +146,8 @@ def functions_in(crate, path, text):
             end, body = end_of(rows, number, len(head[1]))
             inside, of, trait = owner if head[1] else ("", "", "")
             name = "::".join([module, *([inside] if inside else []), head[2]])
-            code, cycle = "\n".join(rows[body:end]), cycle_of(rows, number) or head[2]
-            found.append(Function(name, head[2], of, trait, path, number, end, body, code, cycle))
+            cycle = cycle_of(rows, number) or head[2]
+            found.append(Function(name, head[2], of, trait, path, number, end, body, cycle))
     return found
 
 
@@ -186,14 +169,9 @@ class Functions:
         texts = {path: text for path, text in sorted(texts.items()) if path.startswith("src/")}
         self.all = [it for path, text in texts.items() for it in functions_in(crate, path, text)]
         self.name_by_types(texts)
-        self.by_name, self.by_last = {}, {}
+        self.by_name = {}
         for it in self.all:
             self.by_name.setdefault(it.name, []).append(it)
-            self.by_last.setdefault(it.last, []).append(it)
-        self.types = {it.of_type for it in self.all if it.of_type}
-        self.modules = {part for it in texts for part in module_of(crate, it).split("::")} | {"crate", "self", "super"}
-        for it in self.all:
-            it.called = self.called_by(it.code, it.of_type)
 
     def name_by_types(self, texts):
         """Names the methods of types by the modules of the types, wherever their impls stand, as a check does."""
@@ -209,39 +187,3 @@ class Functions:
         """The function in whose text this line of a file stands, or None. Functions are told apart by their names."""
         found = next((it for it in self.all if it.path == path and it.first <= line < it.end), None)
         return found if found and len(self.by_name[found.name]) == 1 else None
-
-    def called_by(self, code, of_type=""):
-        """The names of all functions that code may call, written in a method of this type."""
-        found = set()
-        for dot, way, name, bracket in NAME.findall(code):
-            for it in self.by_last.get(name, ()):
-                if self.may_be(it, dot, way, bracket, of_type):
-                    found.add(it.name)
-        for name, sign in UNSEEN.items():
-            if re.search(sign, code):
-                found.update(it.name for it in self.by_last.get(name, ()) if it.of_trait)
-        return found
-
-    def may_be(self, function, dot, way, bracket, of_type):
-        """Whether a name in code may be that of a function with this last name."""
-        is_method = bool(function.of_type or function.of_trait)
-        if dot:
-            return is_method and bool(bracket)
-        before = re.sub(r"::<.*?>", "", way).rstrip(":").split("::")[-1]
-        if not before or before in self.modules:
-            return not is_method
-        before = of_type if before == "Self" else before
-        if before in self.types:
-            # (a trait's own function is each type's)
-            return is_method and function.of_type in ("", before)
-        # (a trait, or a type parameter)
-        return before == function.of_trait or bool(function.of_trait) and len(before) == 1
-
-    def reach(self, names):
-        """The names of all functions that these call, or that those call in turn."""
-        seen, left = set(), [*names]
-        while left:
-            new = {called for it in self.by_name.get(left.pop(), ()) for called in it.called} - seen
-            seen |= new
-            left += new
-        return seen

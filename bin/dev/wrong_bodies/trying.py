@@ -1,6 +1,8 @@
 """Tries edits: in rounds where it can, and alone what a round doesn't tell. As many checks run side by side as there
-are processors, and memory for; the longest begin first."""
+are processors, and memory for; the longest begin first. What a check leaves is taken by those that follow, so of each
+crate one round comes first, and no two edits are tried alone at a time."""
 
+import os
 import signal
 from concurrent.futures import FIRST_COMPLETED, ThreadPoolExecutor, wait
 from dataclasses import dataclass
@@ -11,7 +13,7 @@ from . import judging
 from .edits import applied, owner, texts_for, together
 from .judging import BAD, LEFT, UNTRIED, Verdict
 from .names import Functions
-from .rounds import placed, rounds, size
+from .rounds import Placed, rounds
 
 
 @dataclass
@@ -78,36 +80,47 @@ class Subject:
         for it in edits:
             it.fault = it.fault or applied([it], self.texts)[1]
         self.found = {it.name: Verdict(BAD, it.fault) for it in edits if it.fault}
-        self.rounds, self.alone, self.seconds, self.counting = 0, 0, 0, Lock()
+        # (the edit that is tried alone, and those that wait for it)
+        self.lonely = []
+        self.rounds, self.alone, self.seconds, self.lock = 0, 0, 0, Lock()
         # (asked for once: what is asked of memory reads the files)
         self.lines, self.memory = sum(it.count("\n") for it in self.texts.values()), kit.memory(crate)
 
     def tasks(self):
-        """The rounds of its edits, and those that have to be tried alone from the start."""
+        """The first round of its edits. The others, and those that have to be tried alone, come behind it, and take what
+        it leaves."""
         good = [it for it in self.edits if not it.fault]
-        owners = {it.name: owner(it, self.functions, self.texts) for it in good}
-        in_rounds = [placed(it, owners[it.name], self.functions) for it in good if owners[it.name]]
-        rest = [it for it in good if not owners[it.name]]
-        return [self.round(it) for it in rounds(in_rounds)] + [self.lonely(it) for it in rest]
+        all_placed = [Placed(it, owner(it, self.functions, self.texts)) for it in good]
+        found = rounds([it for it in all_placed if it.function])
+        rest = [it for it in all_placed if not it.function]
+        behind = lambda: [*[self.round(it) for it in found[1:]], *[task for it in rest for task in self.apart(it)]]
+        return [self.round(found[0], behind)] if found else behind()
 
-    def round(self, group):
-        share = size(group) / max(1, len(self.functions.all))
-        return Task(self.lines * min(1, share), self.memory, lambda: self.try_round(group))
+    def round(self, group, behind=lambda: []):
+        share = len(group) / max(1, len(self.functions.all))
+        return Task(self.lines * min(1, share), self.memory, lambda: [*self.try_round(group), *behind()])
 
-    def lonely(self, edit, function=None):
-        return Task(self.lines, self.memory, lambda: self.try_alone(edit, function))
+    def apart(self, placed):
+        """The task in which an edit is tried alone: none yet while another one is, since each takes what the one before
+        has left."""
+        with self.lock:
+            self.lonely.append(placed)
+            return [Task(self.lines, self.memory, self.try_alone)] if len(self.lonely) == 1 else []
 
     def settle(self, edit, verdict):
         self.found[edit.name] = verdict
         self.keep(edit, verdict)
+        if len(self.found) == len(self.edits):
+            self.kit.forget(self.crate)
 
     def check(self, edits, only=()):
         """A check with these edits, and the files that they change. One that was killed, for memory most likely, is
         made once more."""
         texts = together(edits, self.texts) if only else applied(edits, self.texts)[0]
+        proofs = self.left_out(only) if only else {}
         for _ in range(2):
-            said = self.kit.check(self.crate, texts, only)
-            with self.counting:
+            said = self.kit.check(self.crate, texts | proofs, only)
+            with self.lock:
                 self.seconds += said.seconds
                 self.rounds += bool(only)
                 self.alone += not only
@@ -115,17 +128,25 @@ class Subject:
                 break
         return said, texts
 
+    def left_out(self, names):
+        """The files by which a check of these functions does without the proofs of the others, which tell nothing: an
+        empty proof instead of its parts. What is proved for functions that call one another stays."""
+        found = {}
+        for it in self.functions.all:
+            own, shared = ("/".join(["proofs", *parts]) for parts in judging.proofs_of(it))
+            stays = it.name in names or it.cycle != it.last or os.path.exists(f"{self.crate.folder}/{shared}")
+            if it.has_body() and not stays and not os.path.exists(f"{self.crate.folder}/{own}/Proof.antt"):
+                found |= {f"{own}/Answers.antt": None, f"{own}/Invariants.antt": None, f"{own}/Proof.antt": ""}
+        return found
+
     def try_round(self, group):
         """Tries the edits of a round. Answers the tasks for those of which it doesn't tell."""
-        names = sorted({it.owner for it in group})
-        said, texts = self.check([it.edit for it in group], names)
+        said, texts = self.check([it.edit for it in group], sorted({it.owner for it in group}))
         if said.status == -signal.SIGTERM:
             return []
         if not judging.is_ended(said) or judging.unread(said, texts):
-            # One edit may keep the check from all.
-            half = len(group) // 2
             self.say(f"{self.crate.name}: a round of {len(group)} tells nothing: {judging.last_line(said)[:160]}")
-            return [self.round(it) for it in (group[:half], group[half:])] if half else [self.left(group[0])]
+            return self.parted(group, self.blamed(group, said, texts))
         verdicts = [(it, judging.own_verdict(said, it.function)) for it in group]
         for it, verdict in verdicts:
             if verdict.kind != LEFT:
@@ -134,20 +155,35 @@ class Subject:
         alone = f", alone then: {' '.join(it.edit.name for it in left)}" if left else ""
         refused = len(group) - len(left)
         self.say(f"{self.crate.name}: a round of {len(group)}, {refused} refused, {said.seconds:.0f} s{alone}")
-        return [self.left(it) for it in left]
+        return [task for it in left for task in self.apart(it)]
 
-    def left(self, it):
-        return self.lonely(it.edit, it.function)
+    def blamed(self, group, said, texts):
+        """The edits of a round in whose functions a check finds what keeps it from all."""
+        functions = Functions(self.crate.name, self.texts | texts)
+        found = [functions.at(path, line - 1) for path, line in judging.errors(said)]
+        return [it for it in group if it.owner in [function.name for function in found if function]]
 
-    def try_alone(self, edit, function):
-        """Tries one edit by a check of the whole crate."""
+    def parted(self, group, blamed):
+        """The tasks in place of a round that tells nothing: without the edits to blame, or, if it can't be told which
+        these are, each half for itself."""
+        half, rest = len(group) // 2, [it for it in group if it not in blamed]
+        if blamed or not half:
+            apart = [task for it in blamed or group for task in self.apart(it)]
+            return [*apart, *([self.round(rest)] if blamed and rest else [])]
+        return [self.round(group[:half]), self.round(group[half:])]
+
+    def try_alone(self):
+        """Tries the next edit that is tried alone, by a check of the whole crate. Answers the task for one behind."""
+        edit, function = self.lonely[0].edit, self.lonely[0].function
         said, texts = self.check([edit])
         if said.status == -signal.SIGTERM:
             return []
         verdict = judging.whole_verdict(said, texts, function)
         self.settle(edit, verdict)
         self.say(f"{self.crate.name}: {edit.name} alone: {verdict.kind}, {said.seconds:.0f} s")
-        return []
+        with self.lock:
+            self.lonely.pop(0)
+            return [Task(self.lines, self.memory, self.try_alone)] if self.lonely else []
 
     def give_up(self, why):
         """Tells of all its edits that they weren't tried."""
