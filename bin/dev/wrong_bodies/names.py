@@ -20,8 +20,8 @@ def without_texts(text):
 @dataclass
 class Function:
     """A function: its full name, its last name, the type and the trait that it stands in (or ""), its file, the number
-    of its first line and of the one behind its last, the number of the line where its body begins (the same, where it
-    has none), and the name under which it is proved if it calls itself."""
+    of its first line, attributes included, and of the one behind its last, the number of the line where its body begins
+    (the same, where it has none), and the name under which it is proved if it calls itself."""
 
     name: str
     last: str
@@ -147,8 +147,16 @@ def functions_in(crate, path, text):
             inside, of, trait = owner if head[1] else ("", "", "")
             name = "::".join([module, *([inside] if inside else []), head[2]])
             cycle = cycle_of(rows, number) or head[2]
-            found.append(Function(name, head[2], of, trait, path, number, end, body, cycle))
+            found.append(Function(name, head[2], of, trait, path, first_of(rows, number), end, body, cycle))
     return found
+
+
+def first_of(rows, number):
+    """The number of the first line of the attributes above a function, where a check says that its goals stand, or of
+    its own line."""
+    while number and rows[number - 1].strip() and not rows[number - 1].rstrip().endswith(("{", "}", ";")):
+        number -= 1
+    return number
 
 
 def cycle_of(rows, number):

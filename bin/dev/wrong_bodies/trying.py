@@ -87,8 +87,8 @@ class Subject:
         self.lines, self.memory = sum(it.count("\n") for it in self.texts.values()), kit.memory(crate)
 
     def tasks(self):
-        """The first round of its edits. The others, and those that have to be tried alone, come behind it, and take what
-        it leaves."""
+        """The first round of its edits. The others, and those that have to be tried alone, come behind it, and take
+        what it leaves."""
         good = [it for it in self.edits if not it.fault]
         all_placed = [Placed(it, owner(it, self.functions, self.texts)) for it in good]
         found = rounds([it for it in all_placed if it.function])
