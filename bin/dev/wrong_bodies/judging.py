@@ -92,7 +92,7 @@ def proofs_of(function):
 
 def is_goal(words):
     """Whether a message tells of a goal or of an answer that isn't met, and not only how to go on."""
-    return "it is not proved" in words or words.startswith("error")
+    return "it is not proved" in words or "found no proof" in words or words.startswith("error")
 
 
 def own_messages(said, function):
