@@ -1,8 +1,8 @@
 """What a check says of wrong bodies. Its output has a line for each function, as `fn redo_path::words::leave: no proof:
 ..`, notes on goals in a function's text, and errors in the files of its proof.
 
-An edit is refused where its own function isn't proved for a reason of its own, and not because of a function that it
-calls. Where a whole check is made with one edit, it is enough that the crate isn't proved."""
+An edit is refused where a goal of its own function isn't proved, whatever becomes of the functions that it calls. Where
+a whole check is made with one edit, it is enough that the crate isn't proved."""
 
 import re
 from collections import namedtuple
@@ -23,9 +23,8 @@ Verdict = namedtuple("Verdict", "kind why")
 LINE = re.compile(r"^fn (\S+): (.*)$", re.M)
 # A message that has a place: its file, its line, and its words.
 MESSAGE = re.compile(r"^(?:note: )?(?:\./)?((?:src|specs|proofs)/\S+?):(\d+):\d+: (.*)$", re.M)
-# Reasons of a function's line that lie in other functions.
-CASCADE = re.compile(r"\s*(it calls |it passes |a call of |it waits for the proof of |.*which (is|are) not proved)")
-STANDS = re.compile(r"it stands on (.*), which antt refuses")
+# How a function's line begins where nothing of its own is refused.
+FINE = ("proved", "no holes", "depends on a hole", "could not tell")
 # An error in a proof that says nothing of what it proves.
 GONE = re.compile(r"has no field|is not in scope|has no `|was not admitted")
 # One of declarations behind another error, which says nothing more.
@@ -106,32 +105,13 @@ def own_messages(said, function):
     return found
 
 
-def own_reasons(line, function):
-    """The reasons of a function's line that don't lie in other functions; [""] where it gives none at all."""
-    if line.startswith(("proved", "no holes", "could not tell")):
-        return []
-    reasons = re.sub(r"^(not proved|no proof)[;:]?", "", line).strip()
-    if not reasons:
-        return [""]
-    own = [f".proofs.{'.'.join(it)}." for it in proofs_of(function)]
-    found = []
-    for reason in reasons.split("; "):
-        stands = STANDS.match(reason)
-        if not stands and not CASCADE.match(reason):
-            found.append(reason)
-        if stands and any(it in stands[1].replace(".fn.", ".") for it in own):
-            found.append(reason)
-    return found
-
-
 def own_verdict(said, function):
-    """What a check tells of the edit in this function by the function's own lines: REFUSED, NAMED or LEFT."""
+    """What a check tells of the edit in this function by the function's own goals: REFUSED, NAMED or LEFT."""
     lines = [line for name, line in LINE.findall(said.text) if is_of(name, function)]
-    reasons = [it for line in lines for it in own_reasons(line, function)]
     messages = own_messages(said, function)
     if not lines:
         return Verdict(LEFT, "no line names its function")
-    if not reasons or not messages:
+    if not messages or all(it.startswith(FINE) for it in lines):
         return Verdict(LEFT, "no goal of its own function is refused")
     return told_by(messages)
 
