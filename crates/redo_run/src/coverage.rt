@@ -93,10 +93,10 @@ fn entries_are_read(tree: &Tree, wanted: &Wanted, entries: &[BookEntry]) -> bool
 }
 
 /// Whether the paths that a record of a book names were read.
-fn record_is_read(tree: &Tree, wanted: &Wanted, record: &BookRecord) -> bool
-    ensures { result ≡ true → Covers (wants wanted.now) tree.now (named_by (record_of record.now)) }
+fn record_is_read(tree: &Tree, wanted: &Wanted, made: &BookRecord) -> bool
+    ensures { result ≡ true → Covers (wants wanted.now) tree.now (named_by (record_of made.now)) }
 {
-    is_read(tree, wanted, &record.target) && entries_are_read(tree, wanted, &record.entries)
+    is_read(tree, wanted, &made.target) && entries_are_read(tree, wanted, &made.entries)
 }
 
 /// Whether the paths that the records of a book name were read.

@@ -182,6 +182,8 @@ where
     ensures passed { names.new.passed ≡ names.old.passed }
     ensures loaded { IfOk result (λ tree. IsLoaded (D.lists dir.now)
         (Leads (D.looks dir.now) (ReadIf (wants reading.entry.wanted.now) (D.reads dir.now))) tree names.old.passed) }
+    ensures book { IfOk result (λ tree. IsFileOrNone (D.refuses dir.now) tree path_of_book) }
+    ensures journal { IfOk result (λ tree. IsFileOrNone (D.refuses dir.now) tree path_of_journal) }
     ensures unread { IfErr result (IsUnread (D.lists dir.now) (D.looks dir.now) (D.reads dir.now) (D.refuses dir.now)) }
 {
     match names.load(host.rt, dir, host.alloc(), reading) {
