@@ -39,6 +39,10 @@ Unread path size bytes = bytes ≡ []
 abbrev pub wants : Wanted → List ℕ → Bool
 wants wanted path = wanted.all || is_among wanted.paths path
 
+-- what the system said when the file at a place was last read, if it refused that
+abbrev pub refusal_at : Place → Option ErrorKind
+refusal_at place = elim place.content [ Ok content ↦ None | Err kind ↦ Some kind ]
+
 -- the files that are wanted are read, and each other one stays empty
 abbrev pub ReadIf : (List ℕ → Bool) → Reads → Reads
 ReadIf wants reads path size bytes = ((wants path ≡ true) × reads path size bytes) ⊎ ((wants path ≡ false) × (bytes ≡ []))

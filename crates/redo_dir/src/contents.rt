@@ -2,7 +2,7 @@
 
 ghost use Rattle.std.specs.List.{AllByRecursion};
 ghost use Rattle.std.specs.Prelude.{◌≡◌, IfErr, IfOk};
-ghost use Rattle.redo_dir.specs.Loaded.{found_at, found_in, wants};
+ghost use Rattle.redo_dir.specs.Loaded.{found_at, found_in, refusal_at, wants};
 ghost use Rattle.redo_dir.specs.inside.Contents.{IsFilled, IsFilledAs, IsRefusal};
 
 use crate::looking::threads_for;
@@ -95,6 +95,16 @@ impl Place {
             path,
             size,
             content: Ok(None),
+        }
+    }
+
+    /// What the system said when the file was last read, if it refused that.
+    pub fn refusal(&self) -> Option<ErrorKind>
+        ensures { result ≡ refusal_at self.now }
+    {
+        match &self.content {
+            Ok(_) => None,
+            Err(kind) => Some(*kind),
         }
     }
 
