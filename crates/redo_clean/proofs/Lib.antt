@@ -1,3 +1,4 @@
 pub mod CleanLemmas
+pub mod LawLemmas
 pub mod PlanLemmas
 pub mod TextLemmas

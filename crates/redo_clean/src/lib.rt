@@ -5,12 +5,14 @@
 //! whatever else is in the directory stays.
 //!
 //! - `planning`: what a clean would remove and keep; `fate`: what becomes of a file; `faults`: why a clean stops;
-//! - `cleaning`: the clean itself; `text`: what it prints.
+//! - `cleaning`: the clean itself; `text`: what it prints;
+//! - [`laws`]: what a clean depends on.
 #![tactic(auto)]
 
 mod cleaning;
 mod fate;
 mod faults;
+pub mod laws;
 mod planning;
 mod text;
 
