@@ -8,6 +8,7 @@ pub mod OrderLemmas
 pub mod ReportLemmas
 pub mod RestingLemmas
 pub mod RingLemmas
+pub mod SameLemmas
 pub mod ScanLemmas
 pub mod StepLemmas
 pub mod TableLemmas

@@ -2,7 +2,7 @@
 
 ghost use Rattle.std.specs.Prelude.{◌≡◌, ◌⊎◌, ℕ, ◌≤◌, true, false, List, [], Some, None, length};
 ghost use Rattle.redo_names.specs.Paths.{IsAmong};
-ghost use Rattle.redo_tree.specs.Tree.{file_at};
+ghost use Rattle.redo_tree.specs.Tree.{IsTree, file_at};
 ghost use Rattle.redo_book.specs.Book.{Record, record_at};
 ghost use Rattle.redo_book.specs.Intact.{is_intact};
 ghost use Rattle.redo_build.specs.Outcomes.{needed_at};
@@ -12,13 +12,15 @@ ghost use Rattle.redo_skip.specs.Sources.{Sources, without_book};
 ghost use Rattle.redo_why.specs.OutOfDate.{Ring, Word, listed, may_begin};
 ghost use Rattle.redo_why.specs.Runs.{IsBegunBy, IsKept, IsNeededBy, IsRecordInCheck, end_with, rules_with};
 ghost use Rattle.redo_list.specs.Lists.{ListedView};
+ghost use Rattle.redo_past.specs.Past.{IsPast, PastView};
+ghost use Rattle.redo_reads.specs.Reads.{AreNamedAlike, named_in};
 ghost use Rattle.redo_report.specs.Reports.{IsReport};
 ghost use Rattle.redo_report.specs.declared.report.Report.{Report};
 ghost use Rattle.redo_rules.specs.Build.{GivenView, last_run_of, rules_for, sources_for};
 ghost use Rattle.redo_why_trees.specs.TreeWhy.{IsToldCyclic, IsToldKept};
 ghost use Rattle.redo_ood.specs.Foreseen.{IsFirstAsked, IsHonestGiven, IsListed, IsListedAs, IsNeededIn, IsUnforeseen, is_new};
 ghost use Rattle.redo_ood.specs.Foreseen.{is_open, is_ring, is_unknown};
-ghost use Rattle.redo_ood.specs.Listing.{IsList, IsRingOf, RestsOn, word_with};
+ghost use Rattle.redo_ood.specs.Listing.{IsList, IsRingOf, RestsOn, run_over, word_with};
 
 use redo_why::laws::verdicts_tell_of_this_run;
 
@@ -109,4 +111,14 @@ pub fn an_empty_list_tells_all()
 pub fn a_ring_waits_for_a_ring()
     ensures { (s : Sources) (last : LastRun) (request : List (List ℕ)) (r : Record) →
         word_with s last request r ≡ Some Ring → IsRingOf s last request r }
+{}
+
+/// A list depends on names, on the book and on the files that this names: it is that of each past with the same names
+/// and the same book whose files are the same where it names them, whatever is in the others.
+pub fn a_list_rests_on_what_the_book_names()
+    ensures { (given : GivenView) (now : PastView) (listed : List ListedView) → IsTree given.past.tree →
+        IsTree now.tree → IsPast given.past → IsPast now → AreNamedAlike given.past.tree now.tree →
+        now.book ≡ given.past.book →
+        ((p : List ℕ) → IsAmong (named_in given.past.book) p → file_at now.tree p ≡ file_at given.past.tree p) →
+        IsList given listed → IsList (run_over now given.request given.limits) listed }
 {}
