@@ -37,9 +37,19 @@ pub(crate) struct Built<'a> {
     pub(crate) report: &'a Report,
     /// Whether every requested path is a source or built.
     pub(crate) good: bool,
+    /// Whether a directory that may not be listed was taken for empty.
+    pub(crate) hides: bool,
 }
 
 impl After<'_> {
+    /// How much is said of what a run didn't see: a strict build shows why it fails.
+    pub(crate) fn voice_of_notes(&self) -> Voice {
+        Voice {
+            notes: self.voice.notes || self.build.strict,
+            ..self.voice
+        }
+    }
+
     /// Whether nothing is to be said.
     pub(crate) fn is_silent(&self) -> bool {
         let is_plain = self.build.format == Format::Report;

@@ -12,9 +12,11 @@ use crate::passing::note_names;
 use crate::progress::Progress;
 use crate::status::Fault;
 use crate::taking::{options_for, options_of, say_taken};
-use crate::{buffered, flush, lock, note_passed};
+use crate::unseen::Unseen;
+use crate::{buffered, flush, lock};
 use redo_bundle::Plain;
 use redo_dir::{Lockable, SystemDir};
+use redo_lenient::LenientDir;
 use redo_line::{BuildOptions, Format, Input, Storing, Voice};
 use redo_path::Path;
 use redo_run::{BundleRun, Cause, DirRun, Exit, Host, Said, preview_dir, run_bundle, run_dir};
@@ -38,6 +40,7 @@ pub(crate) struct DirBuild {
     pub(crate) run: DirRun,
     /// The files that it took back.
     pub(crate) taken: Vec<Path>,
+    pub(crate) unseen: Unseen,
 }
 
 /// When a build begins, if it is told and the clock tells it.
@@ -137,6 +140,7 @@ fn end_over_bundle<H: Runtime>(
         past: &past,
         report: &report,
         good,
+        hides: false,
     };
     let found = find_for(alloc, after, &built)?;
     print_report(rt, alloc, after, &built, &found)?;
@@ -150,16 +154,17 @@ fn end_over_dir<H: Runtime>(
     after: &After<'_>,
     build: DirBuild,
 ) -> Result<bool, Fault> {
-    let DirBuild { run, taken } = build;
+    let DirBuild { run, taken, unseen } = build;
     let good = run.exit == Exit::Good;
     let built = Built {
         past: &run.past,
         report: &run.report,
         good,
+        hides: unseen.hidden.is_some(),
     };
     let found = find_for(alloc, after, &built)?;
     print_report(rt, alloc, after, &built, &found)?;
-    note_passed(rt, run.passed);
+    unseen.note(rt, after.voice_of_notes());
     if let (true, Input::Directory(dir)) = (run.passed != 0, &after.build.input) {
         note_names(rt, alloc, after.voice, dir, run.past.tree());
     }
@@ -243,17 +248,20 @@ where
     requires permit { AllowsRounds host.old.permit }
 {
     if build.storing == Storing::Nothing {
-        let dir = SystemDir::new(host.rt, host.alloc(), dir);
+        let dir = LenientDir::new(host.alloc(), SystemDir::new(host.rt, host.alloc(), dir));
         let options = options_for(host, &dir, build, cause)?;
         let run = preview_dir(host, &dir, writer, &options, cause)?;
+        let unseen = Unseen::of(host.alloc(), &dir, run.passed);
         let taken = options.taken;
-        return Ok(DirBuild { run, taken });
+        return Ok(DirBuild { run, taken, unseen });
     }
     let lock = lock(host.rt, host.alloc(), dir, cause)?;
     let synced = build.storing == Storing::Synced;
-    let mut dir = SystemDir::locked(host.rt, host.alloc(), dir, &lock, synced);
+    let dir = SystemDir::locked(host.rt, host.alloc(), dir, &lock, synced);
+    let mut dir = LenientDir::new(host.alloc(), dir);
     let options = options_for(host, &dir, build, cause)?;
     let run = run_dir(host, &mut dir, writer, &options, cause)?;
+    let unseen = Unseen::of(host.alloc(), &dir, run.passed);
     let taken = options.taken;
-    Ok(DirBuild { run, taken })
+    Ok(DirBuild { run, taken, unseen })
 }

@@ -57,7 +57,7 @@ pub(crate) fn of_fault<H: Runtime>(
 ) -> Words {
     match fault {
         Fault::Bundle(fault) => of_bundle(alloc, fault, &cause.header),
-        Fault::Directory => of_unread(alloc, cause, directory_of(action)),
+        Fault::Directory | Fault::Memory => of_unread(alloc, cause, directory_of(action)),
         Fault::Unstored | Fault::Unremoved | Fault::Journal | Fault::Left => {
             of_place(alloc, cause)
         }
@@ -83,7 +83,6 @@ pub(crate) fn of_fault<H: Runtime>(
         Fault::TooMany => Ok(Some(format!(in alloc;
             "more than {MOST_TARGETS} targets are needed"
         )?)),
-        Fault::Memory => Ok(None),
     }
 }
 
@@ -111,7 +110,7 @@ fn of_bundle(alloc: Global, fault: BundleFault, header: &[u8]) -> Words {
     }
 }
 
-/// What can't be read, a directory or something in it, by its name in the system, and why.
+/// What can't be read, a directory or something in it, by its name in the system, and why: memory may have run out.
 fn of_unread(alloc: Global, cause: &Cause, dir: &str) -> Words {
     let Some(said) = cause.said else {
         return Ok(None);

@@ -1,14 +1,14 @@
 //! The clean of a directory.
 
+use crate::lock;
 use crate::status::Fault;
-use crate::{lock, note_passed};
+use crate::unseen::Unseen;
 use redo_bundle::{Plain, write_all};
 use redo_clean::{CleanFault, CleanPlan, clean, cleaned_text, plan, planned_text};
 use redo_dir::{Lockable, StoreFault, SystemDir, WorkDir};
-use redo_line::Cleaning;
-use redo_mend::{Mended, mend};
-use redo_past::{Past, has_book};
-use redo_run::{Cause, Said, load_with_book};
+use redo_lenient::LenientDir;
+use redo_line::{Cleaning, Voice};
+use redo_run::{Cause, Opened, Said, open_dir};
 use std::alloc::Global;
 use std::io;
 use std::rt::Runtime;
@@ -25,10 +25,12 @@ fn plan_of<H: Runtime + Threads + Sync, D: WorkDir + Sync>(
 where
     D::Draft: Send,
 {
-    let (tree, passed) = load_with_book(rt, alloc, dir, workers, cause)?;
-    let over = has_book(&tree);
-    let Mended { tree, left } = mend(rt, alloc, workers, tree)?;
-    let past = Past::open_by(rt, alloc, workers, tree)?;
+    let Opened {
+        past,
+        left,
+        over,
+        passed,
+    } = open_dir(rt, alloc, dir, workers, cause)?;
     let plan = plan(alloc, &past, left, over)?;
     if plan.is_empty() {
         return Err(Fault::NoBook);
@@ -66,21 +68,21 @@ pub(crate) fn clean_by_plan<D: WorkDir, H: Runtime>(
     }
 }
 
-/// Prints what would become of a directory, and returns how many names were passed over.
+/// Prints what would become of a directory, and returns what wasn't seen of it.
 fn try_out<H: Runtime + Threads + Sync>(
     rt: &H,
     alloc: Global,
     cleaning: &Cleaning,
     cause: &mut Cause,
-) -> Result<u64, Fault>
+) -> Result<Unseen, Fault>
 where
     H::File: Send + Lockable,
     H::Dir: Send,
 {
-    let dir = SystemDir::new(rt, alloc, &cleaning.dir);
+    let dir = LenientDir::new(alloc, SystemDir::new(rt, alloc, &cleaning.dir));
     let (plan, passed) = plan_of(rt, alloc, &dir, cleaning.workers, cause)?;
     print(rt, &planned_text(alloc, &plan)?)?;
-    Ok(passed)
+    Ok(Unseen::of(alloc, &dir, passed))
 }
 
 /// Plans a clean of a directory and carries it out. Returns how many names were passed over.
@@ -99,20 +101,22 @@ where
     Ok(passed)
 }
 
-/// Locks a directory and cleans it. Returns how many names were passed over.
+/// Locks a directory and cleans it. Returns what wasn't seen of it.
 fn clean_locked<H: Runtime + Threads + Sync>(
     rt: &H,
     alloc: Global,
     cleaning: &Cleaning,
     cause: &mut Cause,
-) -> Result<u64, Fault>
+) -> Result<Unseen, Fault>
 where
     H::File: Send + Lockable,
     H::Dir: Send,
 {
     let lock = lock(rt, alloc, &cleaning.dir, cause)?;
-    let mut dir = SystemDir::locked(rt, alloc, &cleaning.dir, &lock, false);
-    clean_by(rt, alloc, &mut dir, cleaning.workers, cause)
+    let dir = SystemDir::locked(rt, alloc, &cleaning.dir, &lock, false);
+    let mut dir = LenientDir::new(alloc, dir);
+    let passed = clean_by(rt, alloc, &mut dir, cleaning.workers, cause)?;
+    Ok(Unseen::of(alloc, &dir, passed))
 }
 
 /// Cleans a directory; in a dry run, prints what would become of it.
@@ -120,17 +124,18 @@ pub(crate) fn clean_dir<H: Runtime + Threads + Sync>(
     rt: &H,
     alloc: Global,
     cleaning: &Cleaning,
+    voice: Voice,
     cause: &mut Cause,
 ) -> Result<bool, Fault>
 where
     H::File: Send + Lockable,
     H::Dir: Send,
 {
-    let passed = if cleaning.dry_run {
+    let unseen = if cleaning.dry_run {
         try_out(rt, alloc, cleaning, cause)?
     } else {
         clean_locked(rt, alloc, cleaning, cause)?
     };
-    note_passed(rt, passed);
+    unseen.note(rt, voice);
     Ok(true)
 }

@@ -2,15 +2,16 @@
 
 ghost use Rattle.redo_run.specs.Directories.{AllowsRounds};
 
-use crate::building::{Run, build_and_write};
+use crate::building::{DirBuild, Run, build_and_write};
 use crate::cleaning::{clean_by_plan, print};
+use crate::lock;
 use crate::progress::Progress;
 use crate::status::Fault;
-use crate::{lock, note_passed};
+use crate::unseen::Unseen;
 use redo_clean::{CleanPlan, planned_text};
 use redo_dead::{dead_plan, dead_text};
 use redo_dir::{Lockable, SystemDir};
-use redo_line::{BuildOptions, Dead, Input};
+use redo_line::{BuildOptions, Dead, Input, Voice};
 use redo_past::Past;
 use redo_report::Report;
 use redo_run::{BundleRun, Cause, Exit, Host};
@@ -25,8 +26,7 @@ use std::thread::Threads;
 struct Tried {
     /// The clean of what it doesn't need.
     plan: CleanPlan,
-    /// How many names were passed over.
-    passed: u64,
+    unseen: Unseen,
 }
 
 /// Plans the removal of what a build with this report doesn't need. Refuses a build that isn't good: what a failed
@@ -56,13 +56,13 @@ where
         Run::OverBundle(run) => {
             let BundleRun { exit, past, report } = run;
             let plan = plan_by(alloc, exit, &past, &report.without_book())?;
-            Ok(Tried { plan, passed: 0 })
+            let unseen = Unseen::nothing();
+            Ok(Tried { plan, unseen })
         }
         Run::OverDir(built) => {
-            let run = built.run;
+            let DirBuild { run, unseen, .. } = built;
             let plan = plan_by(alloc, run.exit, &run.past, &run.report)?;
-            let passed = run.passed;
-            Ok(Tried { plan, passed })
+            Ok(Tried { plan, unseen })
         }
     }
 }
@@ -73,7 +73,7 @@ fn remove_dead<H: Runtime + Threads + Wait + Sync>(
     build: &BuildOptions,
     dir: &str,
     cause: &mut Cause,
-) -> Result<u64, Fault>
+) -> Result<Unseen, Fault>
 where
     H::File: Send + Lockable,
     H::Dir: Send,
@@ -81,16 +81,17 @@ where
 {
     let (rt, alloc) = (host.rt, host.alloc());
     let lock = lock(rt, alloc, dir, cause)?;
-    let Tried { plan, passed } = try_out(host, build, cause)?;
+    let Tried { plan, unseen } = try_out(host, build, cause)?;
     let mut dir = SystemDir::locked(rt, alloc, dir, &lock, false);
     clean_by_plan(rt, alloc, &mut dir, &plan, cause)?;
-    Ok(passed)
+    Ok(unseen)
 }
 
 /// Lists the built files that a build no longer needs, removes them, or says which it would remove.
 pub(crate) fn tell_dead<H: Runtime + Threads + Wait + Sync>(
     host: &mut Host<'_, H, Progress<'_>>,
     dead: &Dead,
+    voice: Voice,
     cause: &mut Cause,
 ) -> Result<bool, Fault>
 where
@@ -99,21 +100,21 @@ where
     requires permit { AllowsRounds host.old.permit }
 {
     let (rt, alloc, build) = (host.rt, host.alloc(), &dead.build);
-    let passed = match &build.input {
+    let unseen = match &build.input {
         Input::Directory(dir) if dead.cleaned && !dead.dry_run => {
             remove_dead(host, build, dir, cause)?
         }
         _ => {
-            let Tried { plan, passed } = try_out(host, build, cause)?;
+            let Tried { plan, unseen } = try_out(host, build, cause)?;
             let text = if dead.cleaned {
                 planned_text(alloc, &plan)?
             } else {
                 dead_text(alloc, &plan)?
             };
             print(rt, &text)?;
-            passed
+            unseen
         }
     };
-    note_passed(rt, passed);
+    unseen.note(rt, voice);
     Ok(true)
 }

@@ -53,7 +53,7 @@ pub(crate) fn find(
 ) -> Result<Found, AllocError> {
     let notes = notes(alloc, built.past, &build.targets, built.report)?;
     let dead = dead_of(alloc, build, built)?;
-    let is_fine = !build.strict || (notes.is_empty() && dead.is_empty());
+    let is_fine = !build.strict || (notes.is_empty() && dead.is_empty() && !built.hides);
     Ok(Found {
         notes,
         dead,

@@ -27,6 +27,7 @@ mod status;
 mod summary;
 mod taking;
 mod unpacking;
+mod unseen;
 mod version;
 
 use formats::tells_run;
@@ -34,6 +35,7 @@ use progress::Progress;
 use redo_bundle::Plain;
 use redo_core::permit::Permit;
 use redo_dir::{DirLock, LockFault, Lockable, SystemDir, lock_dir};
+use redo_lenient::LenientDir;
 use redo_line::{Action, BuildOptions, Call, Dead, Input, Voice, read_call};
 use redo_path::Path;
 use redo_run::{Cause, Host, ROUNDS, Said, requested, whichdo_bundle, whichdo_dir};
@@ -45,6 +47,7 @@ use std::process::ExitCode;
 use std::rt::Runtime;
 use std::sync::Wait;
 use std::thread::Threads;
+use unseen::Unseen;
 use version::VERSION;
 
 /// The size of the buffer of standard output, in bytes.
@@ -132,14 +135,14 @@ where
     let (rt, alloc) = (host.rt, host.alloc());
     match action {
         Action::Build(build) => building::build(host, build, voice, cause),
-        Action::Whichdo(target, input) => list(host, target, input, cause),
-        Action::Ask(query) => queries::ask(rt, alloc, query, cause),
-        Action::OutOfDate(listing) => queries::list_out_of_date(rt, alloc, listing, cause),
-        Action::Shadowed(shadows) => queries::list_shadowed(rt, alloc, shadows, cause),
+        Action::Whichdo(target, input) => list(host, target, input, voice, cause),
+        Action::Ask(query) => queries::ask(rt, alloc, query, voice, cause),
+        Action::OutOfDate(listing) => queries::list_out_of_date(rt, alloc, listing, voice, cause),
+        Action::Shadowed(shadows) => queries::list_shadowed(rt, alloc, shadows, voice, cause),
         Action::Pack(packing) => packing::pack_dir(rt, alloc, packing, cause),
         Action::Unpack(dir) => unpacking::unpack_into(rt, alloc, dir, cause),
-        Action::Clean(cleaning) => cleaning::clean_dir(rt, alloc, cleaning, cause),
-        Action::Dead(dead) => dead::tell_dead(host, dead, cause),
+        Action::Clean(cleaning) => cleaning::clean_dir(rt, alloc, cleaning, voice, cause),
+        Action::Dead(dead) => dead::tell_dead(host, dead, voice, cause),
     }
 }
 
@@ -179,6 +182,7 @@ fn list<H: Runtime + Threads + Sync>(
     host: &Host<'_, H, Progress<'_>>,
     target: &Path,
     input: &Input,
+    voice: Voice,
     cause: &mut Cause,
 ) -> Result<bool, Fault>
 where
@@ -192,17 +196,10 @@ where
             Ok(whichdo_bundle(host.alloc(), &mut reader, &mut writer, target, cause)?)
         }
         Input::Directory(dir) => {
-            let dir = SystemDir::new(host.rt, host.alloc(), dir);
+            let dir = LenientDir::new(host.alloc(), SystemDir::new(host.rt, host.alloc(), dir));
             let (found, passed) = whichdo_dir(host, &dir, &mut writer, target, cause)?;
-            note_passed(host.rt, passed);
+            Unseen::of(host.alloc(), &dir, passed).note(host.rt, voice);
             Ok(found)
         }
-    }
-}
-
-/// Notes on standard error how many names of a directory were passed over, if any were.
-pub(crate) fn note_passed<H: Runtime>(rt: &H, passed: u64) {
-    if passed != 0 {
-        let _shown = eprintln!(rt; "redo: {passed} names passed over");
     }
 }

@@ -1,12 +1,13 @@
 //! The past of a tree that is asked about, and isn't built.
 
 use crate::status::Fault;
+use crate::unseen::Unseen;
 use redo_bundle::{Plain, read_bundle_by_line};
 use redo_dir::{SystemDir, WorkDir};
+use redo_lenient::LenientDir;
 use redo_line::Input;
-use redo_mend::mend;
 use redo_past::Past;
-use redo_run::{Cause, load_with_book};
+use redo_run::{Cause, Opened, open_dir};
 use std::alloc::Global;
 use std::rt::Runtime;
 use std::thread::Threads;
@@ -23,19 +24,18 @@ pub(crate) fn past_in<H: Runtime + Threads + Sync, D: WorkDir + Sync>(
 where
     D::Draft: Send,
 {
-    let (tree, passed) = load_with_book(rt, alloc, dir, workers, cause)?;
-    let tree = mend(rt, alloc, workers, tree)?.tree;
-    Ok((Past::open_by(rt, alloc, workers, tree)?, passed))
+    let Opened { past, passed, .. } = open_dir(rt, alloc, dir, workers, cause)?;
+    Ok((past, passed))
 }
 
-/// The same of a bundle, or of a directory.
+/// The same of a bundle, or of a directory. Returns what wasn't seen of it, too.
 pub(crate) fn past_of<H: Runtime + Threads + Sync>(
     rt: &H,
     alloc: Global,
     input: &Input,
     workers: usize,
     cause: &mut Cause,
-) -> Result<(Past, u64), Fault>
+) -> Result<(Past, Unseen), Fault>
 where
     H::File: Send,
     H::Dir: Send,
@@ -44,10 +44,12 @@ where
         Input::Bundle => {
             let mut reader = Plain::new(rt.reader());
             let tree = read_bundle_by_line(alloc, &mut reader, &mut cause.header)?;
-            Ok((Past::open_by(rt, alloc, workers, tree)?, 0))
+            Ok((Past::open_by(rt, alloc, workers, tree)?, Unseen::nothing()))
         }
         Input::Directory(dir) => {
-            past_in(rt, alloc, &SystemDir::new(rt, alloc, dir), workers, cause)
+            let dir = LenientDir::new(alloc, SystemDir::new(rt, alloc, dir));
+            let (past, passed) = past_in(rt, alloc, &dir, workers, cause)?;
+            Ok((past, Unseen::of(alloc, &dir, passed)))
         }
     }
 }

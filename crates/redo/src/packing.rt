@@ -1,7 +1,8 @@
 //! A directory as a bundle.
 
 use crate::status::Fault;
-use crate::{buffered, flush, note_passed};
+use crate::unseen::note_passed;
+use crate::{buffered, flush};
 use redo_bundle::Plain;
 use redo_dir::SystemDir;
 use redo_line::Packing;

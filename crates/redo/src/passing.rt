@@ -159,7 +159,11 @@ impl<'a, H: Runtime> Walk<'a, H> {
         above: &Path,
         passed: &mut Passed,
     ) -> io::Result<()> {
-        for name in dir.list(self.alloc, above)? {
+        // One that may not be listed was taken for empty.
+        let Ok(names) = dir.list(self.alloc, above) else {
+            return Ok(());
+        };
+        for name in names {
             self.note_name(dir, above, &name, passed)?;
         }
         Ok(())

@@ -1,12 +1,11 @@
 //! Questions to the previous run's book.
 
 use crate::lists::list_in;
-use crate::note_passed;
 use crate::opening::past_of;
 use crate::status::Fault;
 use bstr::BStr;
 use redo_bundle::{Plain, write_all};
-use redo_line::{Listing, Query, Shadows};
+use redo_line::{Listing, Query, Shadows, Voice};
 use redo_notes::{shadowed, text_of_shadowed};
 use redo_ood::out_of_date;
 use redo_path::Path;
@@ -22,23 +21,24 @@ pub(crate) fn ask<H: Runtime + Threads + Sync>(
     rt: &H,
     alloc: Global,
     query: &Query,
+    voice: Voice,
     cause: &mut Cause,
 ) -> Result<bool, Fault>
 where
     H::File: Send,
     H::Dir: Send,
 {
-    let (past, passed) = past_of(rt, alloc, &query.input, query.workers, cause)?;
+    let (past, unseen) = past_of(rt, alloc, &query.input, query.workers, cause)?;
     match answer_to(alloc, &past, &query.question)? {
         Answer::Lines(text) => {
             let mut writer = Plain::new(io::writer(rt));
             write_all(&mut writer, &text)?;
-            note_passed(rt, passed);
+            unseen.note(rt, voice);
             Ok(true)
         }
         Answer::Unknown(nearest) => {
             show_unknown(rt, nearest);
-            note_passed(rt, passed);
+            unseen.note(rt, voice);
             Ok(false)
         }
     }
@@ -50,17 +50,18 @@ pub(crate) fn list_out_of_date<H: Runtime + Threads + Sync>(
     rt: &H,
     alloc: Global,
     listing: &Listing,
+    voice: Voice,
     cause: &mut Cause,
 ) -> Result<bool, Fault>
 where
     H::File: Send,
     H::Dir: Send,
 {
-    let (past, passed) = past_of(rt, alloc, &listing.input, listing.workers, cause)?;
+    let (past, unseen) = past_of(rt, alloc, &listing.input, listing.workers, cause)?;
     let listed = out_of_date(alloc, &past, &listing.targets)?;
     let text = list_in(alloc, listing.format, &past, &listed)?;
     write_all(&mut Plain::new(io::writer(rt)), &text)?;
-    note_passed(rt, passed);
+    unseen.note(rt, voice);
     Ok(listed.is_empty())
 }
 
@@ -69,16 +70,17 @@ pub(crate) fn list_shadowed<H: Runtime + Threads + Sync>(
     rt: &H,
     alloc: Global,
     shadows: &Shadows,
+    voice: Voice,
     cause: &mut Cause,
 ) -> Result<bool, Fault>
 where
     H::File: Send,
     H::Dir: Send,
 {
-    let (past, passed) = past_of(rt, alloc, &shadows.input, shadows.workers, cause)?;
+    let (past, unseen) = past_of(rt, alloc, &shadows.input, shadows.workers, cause)?;
     let text = text_of_shadowed(alloc, &shadowed(alloc, &past)?)?;
     write_all(&mut Plain::new(io::writer(rt)), &text)?;
-    note_passed(rt, passed);
+    unseen.note(rt, voice);
     Ok(true)
 }
 

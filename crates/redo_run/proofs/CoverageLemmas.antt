@@ -1,25 +1,26 @@
 -- Files that were read, one more at a time.
-use Rattle.std.proofs.Common.{◌≡◌, ◌∙◌, ◌+◌, ◌<◌, ℕ, Bool, true, false, List, [], ◌∷◌, ◌++◌, inl, inr, sym, ap, subst, length, map}
+use Rattle.std.proofs.Common.{◌≡◌, ◌∙◌, ◌+◌, ◌<◌, ℕ, Bool, true, false, List, [], ◌∷◌, ◌++◌, inl, inr, sym, ap, subst, length, map, Result, Ok, Err}
 use Rattle.std.proofs.Common.{slice_index_or, take, ◌⊎◌, ◌||◌, ◌&&◌, bytes_eq, append-nil, refl}
-use Rattle.std.specs.Prelude.{flat_map}
+use Rattle.std.specs.Prelude.{IfOk, flat_map}
 use Rattle.std.specs.List.{AllByRecursion}
 use Rattle.std.proofs.lemmas.Bool.{and_parts, or_cases}
 use Rattle.std.proofs.lemmas.List.{take_more}
 use Rattle.std.proofs.lemmas.List.Concat.{flat_map-append}
 use Rattle.std.proofs.lemmas.Slice.Eq.{bytes_eq-Decides}
+use Rattle.redo_book.specs.Book.{Record, targets_of}
 use Rattle.redo_names.proofs.ListLemmas.{IsAmong-append}
+use Rattle.redo_past.specs.Past.{IsBookOf}
 use Rattle.redo_path.proofs.PartLemmas.{AllByRecursion-append}
 use Rattle.redo_record.specs.Entries.{is_entered, same_kind}
 use Rattle.redo_record.specs.declared.deps.Dep.{Dep}
 use Rattle.redo_record.specs.declared.deps.DepKind.{DepKind}
 use Rattle.redo_record.specs.declared.deps.DepKind.TheVariants.{Change}
 use Rattle.redo_reads.specs.Reads.{HasReads}
-use Rattle.redo_tree.specs.Tree.{Tree}
+use Rattle.redo_tree.specs.Tree.{Tree, file_at}
 use Rattle.redo_which.specs.Rule.{is_file}
-use Rattle.redo_which.specs.Candidates.{book_path}
+use Rattle.redo_which.specs.Candidates.{book_path, journal_path}
 use Rattle.redo_report.specs.declared.report.Report.{Report}
-use Rattle.redo_run.specs.Reading.{HasPlaces}
-use Rattle.redo_run.specs.inside.Foreseen.{Covers}
+use Rattle.redo_run.specs.Reading.{Covers, HasMended, HasPlaces}
 
 or_second : (a b : Bool) → b ≡ true → (a || b) ≡ true
 or_second true b h = refl
@@ -84,3 +85,30 @@ each-of-map g f (x ∷ xs) = ap (λ ps. f (g x) ++ ps) (each-of-map g f xs)
 pub has_places : (paths : List ℕ → Bool) (tree : Tree) (report : Report) → Covers paths tree (book_path ∷ map (λ f. f.0) report.files.items) → HasPlaces paths tree report
 has_places paths tree report h p (inl here) file = h p (inl (sym here)) file
 has_places paths tree report h p (inr later) file = h p (inr later) file
+
+-- ---- what mending looks into
+
+module _ (paths : List ℕ → Bool) (tree : Tree) where
+  -- the file at a path was read, and those at the targets of its book
+  abbrev Said : List ℕ → Type 0
+  Said p =
+      (is_file tree p ≡ true → paths p ≡ true) ×
+      ((book : List Record) → IsBookOf (file_at tree p) book → Covers paths tree (targets_of book))
+
+  has-mended : Said journal_path → Said book_path → HasMended paths tree
+  has-mended new old text some = record {
+    own = covers-one paths tree journal_path (book_path ∷ []) new.0 (covers-one paths tree book_path [] old.0 (λ p m. absurd m));
+    targets = λ journal before is was.
+        let there : IsBookOf (file_at tree journal_path) journal = rw some is in
+        covers-append paths tree (targets_of journal) (targets_of before) (new.1 journal there) (old.1 before was);
+  }
+
+  pub both-said : {E : Type 0} (journal book : List ℕ) (answer : Result Bool E) → journal ≡ journal_path → book ≡ book_path →
+      (is_file tree journal ≡ true → paths journal ≡ true) →
+      ((made : List Record) → IsBookOf (file_at tree journal) made → Covers paths tree (targets_of made)) →
+      IfOk answer (λ all. all ≡ true → is_file tree book ≡ true → paths book ≡ true) →
+      IfOk answer (λ all. all ≡ true → (old : List Record) → IsBookOf (file_at tree book) old → Covers paths tree (targets_of old)) →
+      IfOk answer (λ all. all ≡ true → HasMended paths tree)
+  both-said journal book (Ok all) j b place new at old = λ yes.
+      has-mended (subst Said j (place, new)) (subst Said b (at yes, old yes))
+  both-said journal book (Err e) j b place new at old = tt

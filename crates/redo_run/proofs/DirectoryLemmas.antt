@@ -1,23 +1,22 @@
 -- What a run over a directory comes to, step by step.
 use Rattle.std.proofs.Common.{◌≡◌, ◌∙◌, ℕ, Bool, true, List, [], ◌∷◌, inl, inr, refl, sym, ap, subst, Option, Some, None, ◌⊎◌}
-use Rattle.std.specs.Prelude.{IfErr, IfOk, MatchOption, Result, Ok, Err, option_and_then, option_map}
+use Rattle.std.specs.Prelude.{IfErr, IfOk, Result, Ok, Err, option_and_then}
 use Rattle.std.specs.Arc.{arc_value}
 use Rattle.std.specs.declared.io.ErrorKind.{ErrorKind}
 use Rattle.redo_dir.specs.Loaded.{IsLoaded, Leads, Looks, ReadIf, Reads, wants}
 use Rattle.redo_dir.specs.declared.contents.Wanted.{Wanted}
 use Rattle.redo_dir.proofs.LoadLemmas.{whole}
 use Rattle.redo_dir.specs.Stored.{Step}
-use Rattle.redo_mend.specs.Mended.{IsPassedOver, IsRecoveredTree, MendsTo}
+use Rattle.redo_mend.specs.Mended.{MendsTo}
 use Rattle.redo_past.specs.Past.{IsPast, PastView}
 use Rattle.redo_path.proofs.ApartLemmas.{apart}
 use Rattle.redo_reads.specs.Reads.{AgreeOn, AreNamedAlike, HasBook, IsCovered}
 use Rattle.redo_report.specs.declared.report.Report.{Report}
-use Rattle.redo_tree.specs.Tree.{Directory, File, IsTree, Node, Tree, bytes_of, file_at, kind_of, node_at, without}
+use Rattle.redo_tree.specs.Tree.{Directory, File, IsTree, Node, Tree, bytes_of, file_at, kind_of, node_at}
 use Rattle.redo_tree.proofs.KeptLemmas.{one_sorted}
-use Rattle.redo_which.specs.Candidates.{journal_path}
 use Rattle.redo_run.specs.Directories.{Decides, FallsInPreview, IsBuilt, IsFaultOf, IsUnread, Ran, steps_of}
 use Rattle.redo_run.specs.Directories.{to_build}
-use Rattle.redo_run.specs.Reading.{HasPlaces, HasRead}
+use Rattle.redo_run.specs.Reading.{HasMended, HasRead, MendsAlike}
 use Rattle.redo_run.specs.Storing.{clearing, storing, to_store}
 use Rattle.redo_run.specs.inside.Foreseen.{IsCoveredBy, IsDecided, IsForeseen, IsLoadedAnd, IsUnforeseen, IsUnforeseenOver}
 use Rattle.redo_run.specs.inside.Foreseen.{IsUnloadedOr}
@@ -27,6 +26,7 @@ use Rattle.redo_run.specs.declared.dir_fault.RunDirFault.TheVariants.{Load, Book
 use Rattle.redo_run.specs.declared.exit.Exit.{Exit}
 use Rattle.redo_run.specs.declared.foreseen.Foreseen.{Foreseen}
 use Rattle.redo_run.specs.declared.options.Options.{Options}
+use Rattle.redo_run.proofs.MendingLemmas.{mended_tree}
 
 -- ---- faults
 
@@ -96,7 +96,7 @@ one_node (Some (File bytes)) (Some Directory) k f = apart cc
 one_node (Some (File bytes)) (Some (File others)) k f = let same : bytes ≡ others = cc in ap (λ b. Some (File b)) same
 
 -- trees with the same names and the same files are one
-same_tree : (one two : Tree) → IsTree one → IsTree two → AreNamedAlike one two → ((p : List ℕ) → file_at two p ≡ file_at one p) → two ≡ one
+pub same_tree : (one two : Tree) → IsTree one → IsTree two → AreNamedAlike one two → ((p : List ℕ) → file_at two p ≡ file_at one p) → two ≡ one
 same_tree one two is_one is_two alike same = one_sorted two one is_two.sorted is_one.sorted (λ p. one_node (node_at two p) (node_at one p) (alike p) (same p))
 
 module _ (lists : List ℕ → List (Option (List ℕ)) → Type 0) (looks : Looks) (reads : Reads) (options : Options) (f : Foreseen) where
@@ -117,7 +117,8 @@ module _ (lists : List ℕ → List (Option (List ℕ)) → Type 0) (looks : Loo
 
 -- what the laws say
 abbrev Mends : Type 0
-Mends = (one two : Tree) → AreNamedAlike one two → file_at one journal_path ≡ None → MendsTo two two
+Mends = (one two mended : Tree) (paths : List ℕ → Bool) → IsTree one → IsTree two → AreNamedAlike one two →
+    AgreeOn paths one two → HasMended paths one → MendsTo one mended → (other : Tree) × MendsAlike paths mended two other
 
 abbrev Builds : Type 0
 Builds = (one two : Tree) (paths : List ℕ → Bool) (options : Options) (report : Report) (book : List ℕ) (exit : Exit) →
@@ -125,52 +126,49 @@ Builds = (one two : Tree) (paths : List ℕ → Bool) (options : Options) (repor
     HasRead paths one options report book exit → IsBuilt (to_build options two) options report book exit
 
 abbrev Steps : Type 0
-Steps = (one two : Tree) (paths : List ℕ → Bool) (options : Options) (report : Report) (book : List ℕ) (exit : Exit) →
-    AreNamedAlike one two → AgreeOn paths one two → file_at one journal_path ≡ None →
-    HasRead paths one options report book exit → steps_of two two report book ≡ steps_of one one report book
+Steps = (one two mended other : Tree) (paths : List ℕ → Bool) (options : Options) (report : Report) (book : List ℕ)
+    (exit : Exit) → IsTree one → IsTree two → AreNamedAlike one two → AgreeOn paths one two → HasMended paths one →
+    MendsAlike paths mended two other → HasRead paths mended options report book exit →
+    steps_of two other report book ≡ steps_of one mended report book
 
-module _ (mends : Mends) (builds : Builds) (steps : Steps) (one_past : (past other : PastView) → IsPast past → IsPast other → past.tree ≡ other.tree → past ≡ other) (options : Options) (paths : List ℕ → Bool) (f : Foreseen) (loaded : Tree) (passed : ℕ) (is : IsForeseen options loaded passed f) (c : IsCoveredBy paths f) where
-  none : file_at loaded journal_path ≡ None
-  none = sym is.journal ∙ ap (option_map (λ left. left.journal)) c.journal
+abbrev OnePast : Type 0
+OnePast = (past other : PastView) → IsPast past → IsPast other → past.tree ≡ other.tree → past ≡ other
 
-  -- it went on with the tree as it was
-  same : arc_value f.mended ≡ loaded
-  same = subst (λ (o : Option (List ℕ)). MatchOption o (arc_value f.mended ≡ loaded) (λ text. IsRecoveredTree loaded text (arc_value f.mended) ⊎ (IsPassedOver loaded text × (arc_value f.mended ≡ without loaded (journal_path ∷ []))))) none is.mends
+module _ (mends : Mends) (builds : Builds) (steps : Steps) (one_past : OnePast) (options : Options) (paths : List ℕ → Bool) (f : Foreseen) (loaded : Tree) (passed : ℕ) (is : IsForeseen options loaded passed f) (c : IsCoveredBy paths f) (has : HasMended paths loaded) where
+  abbrev mended : Tree
+  mended = arc_value f.mended
 
-  built : IsBuilt (to_build options loaded) options f.run.report f.run.book f.run.exit
-  built = subst (λ (t : Tree). IsBuilt (to_build options t) options f.run.report f.run.book f.run.exit) same is.built
-
-  past_is : f.run.past.tree ≡ to_build options loaded
-  past_is = is.past.of_tree ∙ ap (to_build options) same
+  built : IsBuilt (to_build options mended) options f.run.report f.run.book f.run.exit
+  built = is.built
 
   past : built.given.past ≡ f.run.past
-  past = one_past built.given.past f.run.past built.is_given.of_tree.is_past is.past.is_past (built.is_given.of_tree.of_tree ∙ sym past_is)
+  past = one_past built.given.past f.run.past built.is_given.of_tree.is_past is.past.is_past (built.is_given.of_tree.of_tree ∙ sym is.past.of_tree)
 
-  read : HasRead paths loaded options f.run.report f.run.book f.run.exit
+  read : HasRead paths mended options f.run.report f.run.book f.run.exit
   read = record {
     built = built;
-    has_book = subst (λ (q : PastView). HasBook paths (to_build options loaded) q.book) (sym past) (subst (λ (t : Tree). HasBook paths t f.run.past.book) past_is c.book);
+    has_book = subst (λ (q : PastView). HasBook paths (to_build options mended) q.book) (sym past) (subst (λ (t : Tree). HasBook paths t f.run.past.book) is.past.of_tree c.book);
     has_rows = subst (λ (q : PastView). IsCovered paths q.sources f.run.report) (sym past) c.rows;
-    has_places = subst (λ (t : Tree). HasPlaces paths t f.run.report) same c.places;
+    has_places = c.places;
   }
 
-  covered_decides : Decides paths options loaded f.run.report f.run.book f.run.exit (steps_of loaded (arc_value f.mended) f.run.report f.run.book)
-  covered_decides tree is_tree alike agree = (
-    tree,
-    mends loaded tree alike none,
-    builds loaded tree paths options f.run.report f.run.book f.run.exit is.is_tree is_tree alike agree read,
-    steps loaded tree paths options f.run.report f.run.book f.run.exit alike agree none read
-        ∙ ap (λ (t : Tree). steps_of loaded t f.run.report f.run.book) (sym same),
-  )
+  covered_decides : Decides paths options loaded f.run.report f.run.book f.run.exit (steps_of loaded mended f.run.report f.run.book)
+  covered_decides tree is_tree alike agree =
+      let there : (other : Tree) × MendsAlike paths mended tree other = mends loaded tree mended paths is.is_tree is_tree alike agree has is.mends in (
+        there.0,
+        there.1.mends,
+        builds mended there.0 paths options f.run.report f.run.book f.run.exit (mended_tree loaded mended is.is_tree is.mends) there.1.is_tree there.1.named there.1.agrees read,
+        steps loaded tree mended there.0 paths options f.run.report f.run.book f.run.exit is.is_tree is_tree alike agree has there.1 read,
+      )
 
--- the files that were read decide, if they are all that were looked into
-pub decided_part : Mends → Builds → Steps → ((past other : PastView) → IsPast past → IsPast other → past.tree ≡ other.tree → past ≡ other) → (lists : List ℕ → List (Option (List ℕ)) → Type 0) (looks : Looks) (reads : Reads) (options : Options) (f : Foreseen) (paths : List ℕ → Bool) → IsCoveredBy paths f → IsLoadedAnd lists looks (ReadIf paths reads) options f → IsDecided lists looks reads options f
-decided_part mends builds steps one_past lists looks reads options f paths c (loaded, l, is) = record {
+-- the files that were read decide, if they are all that was looked into
+pub decided_part : Mends → Builds → Steps → OnePast → (lists : List ℕ → List (Option (List ℕ)) → Type 0) (looks : Looks) (reads : Reads) (options : Options) (f : Foreseen) (paths : List ℕ → Bool) (loaded : Tree) (passed : ℕ) → IsCoveredBy paths f → HasMended paths loaded → IsLoaded lists (Leads looks (ReadIf paths reads)) loaded passed → IsForeseen options loaded passed f → IsDecided lists looks reads options f
+decided_part mends builds steps one_past lists looks reads options f paths loaded passed c has l is = record {
   paths = paths;
   loaded = loaded;
-  is_loaded = l;
-  foreseen = is;
-  decides = covered_decides mends builds steps one_past options paths f loaded f.run.passed is c;
+  is_loaded = subst (IsLoaded lists (Leads looks (ReadIf paths reads)) loaded) (sym is.counted) l;
+  foreseen = subst (λ n. IsForeseen options loaded n f) (sym is.counted) is;
+  decides = covered_decides mends builds steps one_past options paths f loaded passed is c has;
 }
 
 -- ---- a round

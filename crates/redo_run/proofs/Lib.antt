@@ -7,7 +7,9 @@ pub mod ExitLemmas
 pub mod KeepingExamples
 pub mod LedgerLemmas
 pub mod LoadingLemmas
+pub mod MendingLemmas
 pub mod OpenedLemmas
+pub mod OpeningLemmas
 pub mod PoolLemmas
 pub mod ReadingLemmas
 pub mod RefusalLemmas

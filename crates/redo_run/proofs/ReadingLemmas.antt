@@ -1,6 +1,6 @@
 -- Trees with the same names that agree on what a run looks into: it does the same over both.
-use Rattle.std.proofs.Common.{◌≡◌, ℕ, Bool, false, not, inl, inr, Option, Some, None, List, [], ◌∷◌, ◌++◌, map}
-use Rattle.std.proofs.Common.{if◌then◌else◌, is_some, length, nat_eq, refl, sym, ap, ap₂, subst, ◌∙◌, ◌==◌, ◌⊎◌, true≢false}
+use Rattle.std.proofs.Common.{◌≡◌, ℕ, Bool, not, inl, inr, Option, Some, None, List, [], ◌∷◌, ◌++◌, map}
+use Rattle.std.proofs.Common.{if◌then◌else◌, length, nat_eq, refl, sym, ap, ap₂, subst, ◌∙◌, ◌==◌, ◌⊎◌}
 use Rattle.std.specs.Prelude.{All}
 use Rattle.std.specs.Arc.{arc_value}
 use Rattle.std.specs.Cmp.Lexicographic.{pointwise}
@@ -10,7 +10,6 @@ use Rattle.std.proofs.lemmas.Bool.{cases_Bool}
 use Rattle.redo_record.specs.Paths.{IsAmong, with_new}
 use Rattle.redo_build.specs.Rules.{Rules}
 use Rattle.redo_dir.specs.Stored.{Finishes, Journals, Step, put_of, puts_in}
-use Rattle.redo_mend.specs.Mended.{MendsTo}
 use Rattle.redo_reads.specs.Reads.{AgreeOn, AreNamedAlike, HasBook, HasReads, IsCovered}
 use Rattle.redo_reads.proofs.PastLemmas.{without_agrees, without_alike}
 use Rattle.redo_reads.proofs.ReportLemmas.{agreed_file}
@@ -25,13 +24,14 @@ use Rattle.redo_tree.specs.Tree.{IsTree, Tree, file_at, without}
 use Rattle.redo_which.specs.Candidates.{book_path, journal_path}
 use Rattle.redo_run.specs.Directories.{IsBuilt, steps_of, to_build}
 use Rattle.redo_run.specs.Exits.{IsExit, IsExitOf, fails}
-use Rattle.redo_run.specs.Reading.{HasPlaces, HasRead}
+use Rattle.redo_run.specs.Reading.{HasMended, HasPlaces, HasRead, MendsAlike}
 use Rattle.redo_run.specs.Runs.{request_in}
 use Rattle.redo_run.specs.Skipping.{IsSoundFor}
-use Rattle.redo_run.specs.Storing.{clearing, if_new, others_from, storing, to_store}
+use Rattle.redo_run.specs.Storing.{if_new, others_from, storing, to_store}
 use Rattle.redo_run.specs.declared.exit.Exit.{Exit}
 use Rattle.redo_run.specs.declared.exit.Exit.TheVariants.{Good, SomeFailed}
 use Rattle.redo_run.specs.declared.options.Options.{Options}
+use Rattle.redo_run.proofs.MendingLemmas.{clearing_alike}
 use Rattle.redo_run.proofs.ExitLemmas.{exit-failed, exit-good}
 
 -- ---- how a run ends
@@ -148,20 +148,6 @@ module _ (rests : Rests) (sound : Sound) (stays : StaysTree) (one two : Tree) (p
 -- ---- the steps
 
 module _ (one two : Tree) (alike : AreNamedAlike one two) where
-  -- there is no other journal
-  no_journal : file_at one journal_path ≡ None → file_at two journal_path ≡ None
-  no_journal none = no_file (file_at two journal_path) (file_alike one two alike journal_path ∙ ap is_some none)
-    where
-      no_file : (file : Option (List ℕ)) → is_some file ≡ false → file ≡ None
-      no_file None h = refl
-      no_file (Some bytes) h = absurd (true≢false h)
-
-  pub mended_there : file_at one journal_path ≡ None → MendsTo two two
-  mended_there none = let gone = no_journal none in rw gone refl
-
-  nothing_to_clear : (tree : Tree) → file_at tree journal_path ≡ None → clearing tree tree ≡ []
-  nothing_to_clear tree none = rw none refl
-
   puts_there : (files : List (List ℕ × List ℕ)) → puts_in two files ≡ puts_in one files
   puts_there [] = refl
   puts_there (f ∷ fs) =
@@ -189,16 +175,28 @@ module _ (one two : Tree) (alike : AreNamedAlike one two) where
       same
   if_new_there book (f ∷ fs) same = refl
 
-  pub steps_there : (paths : List ℕ → Bool) (report : Report) (book : List ℕ) → AgreeOn paths one two →
-      file_at one journal_path ≡ None → HasPlaces paths one report →
-      steps_of two two report book ≡ steps_of one one report book
-  steps_there paths report book agree none has =
+  -- the same is stored, where the same stands at its places
+  stored_there : (report : Report) (book : List ℕ) →
+      ((p : List ℕ) → ((p ≡ book_path) ⊎ IsAmong (map (λ f. f.0) report.files.items) p) → file_at two p ≡ file_at one p) →
+      storing two (to_store two report.files.items book) ≡ storing one (to_store one report.files.items book)
+  stored_there report book same =
       let files : List (List ℕ × List ℕ) = report.files.items in
-      let same : (p : List ℕ) → ((p ≡ book_path) ⊎ IsAmong (map (λ f. f.0) files) p) → file_at two p ≡ file_at one p =
-      λ p m. agreed_file paths one two alike agree p (has p m) in
       let stored : to_store two files book ≡ to_store one files book =
       if_new_there book (others_from two files) (same book_path (inl refl))
       ∙ ap (if_new one book) (others_there files (λ p m. same p (inr m))) in
+      storing_there (to_store two files book) ∙ ap (storing one) stored
+
+module _ (one two mended other : Tree) (paths : List ℕ → Bool) (is_one : IsTree one) (is_two : IsTree two)
+    (alike : AreNamedAlike one two) (agree : AgreeOn paths one two) (has : HasMended paths one)
+    (mends : MendsAlike paths mended two other) where
+  pub steps_there : (report : Report) (book : List ℕ) → HasPlaces paths mended report →
+      steps_of two other report book ≡ steps_of one mended report book
+  steps_there report book places =
+      let same : (p : List ℕ) → ((p ≡ book_path) ⊎ IsAmong (map (λ f. f.0) report.files.items) p) →
+      file_at other p ≡ file_at mended p =
+      λ p m. agreed_file paths mended other mends.named mends.agrees p (places p m) in
+      let old : (text : List ℕ) → file_at one journal_path ≡ Some text → file_at two book_path ≡ file_at one book_path =
+      λ text here. agreed_file paths one two alike agree book_path ((has text here).own book_path (inr (inl refl))) in
       ap₂ (λ (clear store : List Step). clear ++ store)
-      (nothing_to_clear two (no_journal none) ∙ sym (nothing_to_clear one none))
-      (storing_there (to_store two files book) ∙ ap (storing one) stored)
+      (clearing_alike one two mended other is_one is_two alike mends.named old (same book_path (inl refl)))
+      (stored_there mended other mends.named report book same)

@@ -4,6 +4,7 @@ pub mod Directories
 pub mod Exits
 pub mod Faults
 pub mod Jobs
+pub mod Opening
 pub mod Picks
 pub mod Reading
 pub mod Runs

@@ -1,19 +1,22 @@
-//! Whether a run has read all files that its build looked into.
+//! Whether a run has read all files that its build looked into, and the mending of its tree before.
 
 ghost use Rattle.std.specs.Arc.{arc_value};
 ghost use Rattle.std.specs.List.{AllByRecursion};
-ghost use Rattle.std.specs.Prelude.{◌≡◌, ◌∷◌, [], IfOk, flat_map, map, true};
-ghost use Rattle.redo_book.specs.Book.{record_of};
+ghost use Rattle.std.specs.Prelude.{◌≡◌, ◌∷◌, [], IfOk, List, flat_map, map, true};
+ghost use Rattle.redo_book.specs.Book.{Record, record_of, targets_of};
 ghost use Rattle.redo_dir.specs.Loaded.{wants};
+ghost use Rattle.redo_past.specs.Past.{IsBookOf};
 ghost use Rattle.redo_reads.specs.Reads.{HasReads, changed_in, named_by};
 ghost use Rattle.redo_record.specs.Entries.{same_kind};
 ghost use Rattle.redo_record.specs.declared.deps.DepKind.TheVariants.{Change};
-ghost use Rattle.redo_run.specs.inside.Foreseen.{Covers, IsCoveredBy};
+ghost use Rattle.redo_run.specs.Reading.{Covers, HasMended};
+ghost use Rattle.redo_run.specs.inside.Foreseen.{IsCoveredBy};
+ghost use Rattle.redo_tree.specs.Tree.{file_at};
 ghost use Rattle.redo_which.specs.Rule.{is_file};
 
 use crate::foreseen::Foreseen;
-use redo_book::{Book, BookEntry, BookRecord};
-use redo_dir::Wanted;
+use redo_book::{Book, BookEntry, BookFault, BookRecord, read_book};
+use redo_dir::{Wanted, journal_path};
 use redo_past::book_path;
 use redo_path::Path;
 use redo_record::{Dep, DepKind};
@@ -124,7 +127,7 @@ fn places_are_read(tree: &Tree, wanted: &Wanted, files: &[(Path, Content)]) -> b
 }
 
 /// Whether the book of a tree, at this path, and the paths that it names were read.
-fn book_is_read(tree: &Tree, wanted: &Wanted, book: &Book, place: &Path) -> bool
+pub(crate) fn book_is_read(tree: &Tree, wanted: &Wanted, book: &Book, place: &Path) -> bool
     ensures { result ≡ true → Covers (wants wanted.now) tree.now (place.now ∷ flat_map named_by book.now) }
 {
     is_read(tree, wanted, place) && records_are_read(tree, wanted, book.records())
@@ -137,8 +140,7 @@ fn stored_are_read(tree: &Tree, wanted: &Wanted, files: &[(Path, Content)], plac
     is_read(tree, wanted, place) && places_are_read(tree, wanted, files)
 }
 
-/// Whether all files were read that a build looked into, so that what it came to holds whatever is in the others. Over what
-/// a broken-off run has left it isn't said.
+/// Whether all files were read that a build looked into, so that what it came to holds whatever is in the others.
 pub(crate) fn is_covered(
     alloc: Global,
     foreseen: &Foreseen,
@@ -148,9 +150,6 @@ pub(crate) fn is_covered(
 {
     let (past, report) = (&foreseen.run.past, &foreseen.run.report);
     let place = book_path(alloc)?;
-    if foreseen.plan.left.is_some() {
-        return Ok(false);
-    }
     if !book_is_read(past.tree(), wanted, past.book(), &place) {
         return Ok(false);
     }
@@ -158,4 +157,67 @@ pub(crate) fn is_covered(
         return Ok(false);
     }
     rows_are_read(alloc, past.sources(), wanted, &report.rows)
+}
+
+/// Whether the files at the targets of these records were read.
+fn targets_are_read(tree: &Tree, wanted: &Wanted, records: &[BookRecord]) -> bool
+    ensures { result ≡ true → Covers (wants wanted.now) tree.now (flat_map (λ r. r.target ∷ []) records.now) }
+{
+    for record in records {
+        if !is_read(tree, wanted, &record.target) {
+            return false;
+        }
+    }
+    true
+}
+
+/// Whether the files at the targets of a book were read.
+fn book_targets_are_read(tree: &Tree, wanted: &Wanted, book: &Book) -> bool
+    ensures { result ≡ true → Covers (wants wanted.now) tree.now (targets_of book.now) }
+{
+    targets_are_read(tree, wanted, book.records())
+}
+
+/// Whether the file at a path was read, and those at the targets of the book that it has the text of. A text that is no
+/// book's has none.
+fn said_are_read(
+    alloc: Global,
+    tree: &Tree,
+    wanted: &Wanted,
+    place: &Path,
+) -> Result<bool, AllocError>
+    ensures place { IfOk result (λ all. all ≡ true → is_file tree.now place.now ≡ true → wants wanted.now place.now ≡ true) }
+    ensures targets { IfOk result (λ all. all ≡ true → (book : List Record) → IsBookOf (file_at tree.now place.now) book →
+        Covers (wants wanted.now) tree.now (targets_of book)) }
+{
+    let Some(text) = tree.content(place) else {
+        return Ok(true);
+    };
+    if !wanted.has(place) {
+        return Ok(false);
+    }
+    match read_book(alloc, text.bytes()) {
+        Ok(book) => Ok(book_targets_are_read(tree, wanted, &book)),
+        Err(BookFault::Line(_)) => Ok(true),
+        Err(BookFault::Memory) => Err(AllocError),
+    }
+}
+
+/// Whether all files were read that mending a tree looks into. Without a journal those are none.
+pub(crate) fn is_mending_read(
+    alloc: Global,
+    tree: &Tree,
+    wanted: &Wanted,
+) -> Result<bool, AllocError>
+    ensures { IfOk result (λ all. all ≡ true → HasMended (wants wanted.now) tree.now) }
+{
+    let journal = journal_path(alloc)?;
+    if tree.content(&journal).is_none() {
+        return Ok(true);
+    }
+    if !said_are_read(alloc, tree, wanted, &journal)? {
+        return Ok(false);
+    }
+    let book = book_path(alloc)?;
+    said_are_read(alloc, tree, wanted, &book)
 }

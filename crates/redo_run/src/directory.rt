@@ -2,26 +2,28 @@
 
 ghost use Rattle.std.specs.Prelude.{◌≡◌, ◌↔◌, ◌≤◌, ◌+◌, false, IfErr, IfOk, IfSome, IsErrOf, true};
 ghost use Rattle.redo_core.specs.Permits.{IsUnused};
-ghost use Rattle.redo_dir.specs.Loaded.{AreNamesIn, ReadIf, wants};
+ghost use Rattle.redo_dir.specs.Loaded.{AreNamesIn, IsLoaded, Leads, ReadIf, wants};
 ghost use Rattle.redo_run.specs.Directories.{AllowsRounds, FallsInList, FallsInPreview, IsFaultOf, IsUnread, IsUnwritten};
 ghost use Rattle.redo_run.specs.Directories.{ListsTree, PreviewsTree, ReportsTree};
+ghost use Rattle.redo_run.specs.Reading.{HasMended};
 ghost use Rattle.redo_run.specs.inside.Foreseen.{IsDecided, IsLoadedAnd, IsUnforeseen, IsUnloadedOr};
 
 use crate::candidates::text_of_search;
-use crate::coverage::is_covered;
+use crate::coverage::{is_covered, is_mending_read};
 use crate::foreseen::{Foreseen, foresee_over};
 use crate::laws::runs_rest_on_what_they_read;
-use crate::loading::{list, load_unread, load_wanted};
+use crate::loading::{Lent, list, load_unread, load_wanted};
 use crate::storing::carry_out;
-use crate::wanting::{want_more, wanted_by_name, wanted_first};
+use crate::wanting::{want_less, want_mended, want_more, wanted_by_name, wanted_first};
 use crate::{Cause, Exit, Host, Observer, Options, RunDirFault};
 use redo_bundle::{ByteOut, write_all};
 use redo_dir::{Names, Reading, Wanted, WorkDir};
+use redo_names::PathSet;
 use redo_past::Past;
 use redo_past::laws::a_tree_has_one_past;
 use redo_path::Path;
 use redo_report::{Report, write_report};
-use redo_tree::Content;
+use redo_tree::{Content, Tree};
 use redo_which::lookup::search;
 use std::sync::Wait;
 use std::thread::Threads;
@@ -51,6 +53,8 @@ const PARTS: u64 = 14;
 struct Round {
     names: Names,
     wanted: Wanted,
+    /// The files that couldn't be read once, and weren't wanted from then on. Where one is wanted again, it is needed.
+    refused: PathSet,
 }
 
 /// Loads a directory, and foresees what a run over it comes to. The directory stays as it is.
@@ -73,12 +77,66 @@ where
     ensures fault { IfErr result (IsUnloadedOr (D.lists dir.now) (D.looks dir.now)
         (wants round.old.wanted) (D.reads dir.now) (D.refuses dir.now) options.now) }
 {
+    let lent = Lent {
+        rt: host.rt,
+        alloc: host.alloc(),
+    };
     let reading = Reading {
         workers: options.workers,
         wanted: &round.wanted,
     };
-    let tree = load_wanted(host, dir, &mut round.names, reading, cause)?;
+    let tree = load_wanted(&lent, dir, &mut round.names, reading, cause)?;
     foresee_over(host, tree, round.names.passed, options)
+}
+
+/// Reads the files that are wanted. Answers no tree where one can't be read that nobody may need: the next round does without
+/// it; and where mending the tree looks into others: the next round reads those, too.
+fn load_part<H: Threads + Sync, D: WorkDir + Sync, O>(
+    host: &Host<'_, H, O>,
+    dir: &D,
+    round: &mut Round,
+    workers: usize,
+    cause: &mut Cause,
+) -> Result<Option<Tree>, RunDirFault>
+where
+    D::Draft: Send,
+    requires names { AreNamesIn (D.lists dir.now) (D.looks dir.now) round.old.names }
+    ensures names { AreNamesIn (D.lists dir.now) (D.looks dir.now) round.new.names }
+    ensures loaded { IfOk result (λ found. IfSome found (λ tree. IsLoaded (D.lists dir.now)
+        (Leads (D.looks dir.now) (ReadIf (wants round.new.wanted) (D.reads dir.now))) tree round.new.names.passed)) }
+    ensures mended { IfOk result (λ found. IfSome found (HasMended (wants round.new.wanted))) }
+    ensures unread { IfErr result (IsUnread (D.lists dir.now) (D.looks dir.now) (D.reads dir.now) (D.refuses dir.now)) }
+{
+    let lent = Lent {
+        rt: host.rt,
+        alloc: host.alloc(),
+    };
+    let reading = Reading {
+        workers,
+        wanted: &round.wanted,
+    };
+    match load_wanted(&lent, dir, &mut round.names, reading, cause) {
+        Ok(tree) => {
+            if is_mending_read(host.alloc(), &tree, &round.wanted)? {
+                return Ok(Some(tree));
+            }
+            want_mended(host.alloc(), &mut round.wanted, &tree)?;
+            Ok(None)
+        }
+        Err(RunDirFault::Load) => {
+            if !want_less(
+                host.alloc(),
+                &round.names,
+                &mut round.wanted,
+                &mut round.refused,
+            )? {
+                return Err(RunDirFault::Load);
+            }
+            cause.forget();
+            Ok(None)
+        }
+        Err(fault) => Err(fault),
+    }
 }
 
 /// The same where not all files are read. Answers nothing where what was foreseen rests on others: more files are read then,
@@ -105,7 +163,10 @@ where
     if round.wanted.all {
         return Ok(None);
     }
-    match attempt(host, dir, round, options, cause) {
+    let Some(tree) = load_part(host, dir, round, options.workers, cause)? else {
+        return Ok(None);
+    };
+    match foresee_over(host, tree, round.names.passed, options) {
         Ok(foreseen) => {
             if is_covered(host.alloc(), &foreseen, &round.wanted)? {
                 return Ok(Some(foreseen));
@@ -113,7 +174,6 @@ where
             want_more(host.alloc(), &mut round.wanted, &foreseen)?;
             Ok(None)
         }
-        Err(RunDirFault::Load) => Err(RunDirFault::Load),
         Err(RunDirFault::Memory) => Err(RunDirFault::Memory),
         Err(_) => {
             // A book or a number of targets is refused only by all files.
@@ -186,7 +246,11 @@ where
 {
     let names = list(host.rt, host.alloc(), dir, options.workers, cause)?;
     let wanted = wanted_first(host.alloc(), dir, &names)?;
-    let mut round = Round { names, wanted };
+    let mut round = Round {
+        names,
+        wanted,
+        refused: PathSet::new(host.alloc()),
+    };
     if round.wanted.all {
         match attempt_all(host, dir, &mut round, options, cause) {
             Ok(foreseen) => return Ok(foreseen),

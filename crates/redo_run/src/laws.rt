@@ -1,18 +1,17 @@
 //! Laws of runs. The functions do nothing: each contract is a law.
 
-ghost use Rattle.std.specs.Prelude.{◌≡◌, ℕ, Bool, List, None};
+ghost use Rattle.std.specs.Prelude.{◌≡◌, ℕ, Bool, List};
 ghost use Rattle.redo_mend.specs.Mended.{MendsTo};
 ghost use Rattle.redo_reads.specs.Reads.{AgreeOn, AreNamedAlike};
 ghost use Rattle.redo_report.specs.declared.report.Report.{Report};
 ghost use Rattle.redo_rules.specs.Results.{IsResultOn, NeedsTooMany};
 ghost use Rattle.redo_run.specs.Directories.{IsBuilt, steps_of, to_build};
-ghost use Rattle.redo_run.specs.Reading.{HasRead};
+ghost use Rattle.redo_run.specs.Reading.{HasMended, HasRead, MendsAlike};
 ghost use Rattle.redo_run.specs.Skipping.{IsSoundOn, IsUnsafeOn};
 ghost use Rattle.redo_step.specs.Limits.{LimitsView};
 ghost use Rattle.redo_run.specs.declared.exit.Exit.{Exit};
 ghost use Rattle.redo_run.specs.declared.options.Options.{Options};
-ghost use Rattle.redo_tree.specs.Tree.{IsTree, Tree, file_at};
-ghost use Rattle.redo_which.specs.Candidates.{journal_path};
+ghost use Rattle.redo_tree.specs.Tree.{IsTree, Tree};
 
 use redo_past::laws::a_tree_has_one_past;
 use redo_reads::laws::results_rest_on_what_they_name;
@@ -34,17 +33,20 @@ pub fn keeping_is_sound()
     no_other_file_is_taken_out();
 }
 
-/// What a run over a directory does depends on names and on the files that it looks into: of each tree with the same
-/// names that agrees on those, and has no journal, it is the same, whatever its other files contain. It goes on with the
-/// tree as it is, comes to the same report, book and exit, and takes the same steps.
+/// What a run over a directory does depends on names and on the files that it looks into: it is the same for each tree with
+/// the same names that agrees on those, whatever its other files contain. That tree is mended alike, comes to the same
+/// report, book and exit, and takes the same steps.
 pub fn runs_rest_on_what_they_read()
-    ensures mended { (one two : Tree) → AreNamedAlike one two → file_at one journal_path ≡ None → MendsTo two two }
+    ensures mended { (one two mended : Tree) (paths : List ℕ → Bool) → IsTree one → IsTree two → AreNamedAlike one two →
+        AgreeOn paths one two → HasMended paths one → MendsTo one mended →
+        (other : Tree) × MendsAlike paths mended two other }
     ensures built { (one two : Tree) (paths : List ℕ → Bool) (options : Options) (report : Report) (book : List ℕ)
         (exit : Exit) → IsTree one → IsTree two → AreNamedAlike one two → AgreeOn paths one two →
         HasRead paths one options report book exit → IsBuilt (to_build options two) options report book exit }
-    ensures steps { (one two : Tree) (paths : List ℕ → Bool) (options : Options) (report : Report) (book : List ℕ)
-        (exit : Exit) → AreNamedAlike one two → AgreeOn paths one two → file_at one journal_path ≡ None →
-        HasRead paths one options report book exit → steps_of two two report book ≡ steps_of one one report book }
+    ensures steps { (one two mended other : Tree) (paths : List ℕ → Bool) (options : Options) (report : Report)
+        (book : List ℕ) (exit : Exit) → IsTree one → IsTree two → AreNamedAlike one two → AgreeOn paths one two →
+        HasMended paths one → MendsAlike paths mended two other → HasRead paths mended options report book exit →
+        steps_of two other report book ≡ steps_of one mended report book }
 {
     results_rest_on_what_they_name();
     keeping_is_sound();

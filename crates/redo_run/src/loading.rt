@@ -7,7 +7,7 @@ ghost use Rattle.redo_run.specs.DirFaults.{of_load};
 ghost use Rattle.redo_run.specs.Directories.{IsBlocked, IsFileOrNone, IsUnread};
 ghost use Rattle.redo_run.specs.inside.Loading.{HasNoOwnPlace, HasNoPlace};
 
-use crate::{Cause, Host, RunDirFault, Said};
+use crate::{Cause, RunDirFault, Said};
 use redo_dir::{
     LoadFault, Names, Reading, WorkDir, journal_path, list_names, load_dir, load_names,
 };
@@ -28,6 +28,16 @@ fn unread(cause: &mut Cause, fault: LoadFault) -> RunDirFault
             RunDirFault::Load
         }
         LoadFault::Memory => RunDirFault::Memory,
+    }
+}
+
+/// Notes the first file for which memory lacked when it was read, if there is one: want of memory names no file.
+fn note_too_large(cause: &mut Cause, names: &Names) {
+    for place in &names.found {
+        if place.refusal() == Some(ErrorKind::OutOfMemory) {
+            cause.note(&place.path, Said::System(ErrorKind::OutOfMemory));
+            return;
+        }
     }
 }
 
@@ -126,27 +136,6 @@ fn check_places<D: WorkDir>(
     check_place(dir, alloc, tree, &journal, cause)
 }
 
-/// The same for a build, and for whatever else asks the book: the book has to be a file if there is one, and the journal
-/// too. Where the directory can't be read, or where something else stands in their places, the cause names what it is.
-pub fn load_with_book<T: Threads + Sync, D: WorkDir + Sync>(
-    rt: &T,
-    alloc: Global,
-    dir: &D,
-    workers: usize,
-    cause: &mut Cause,
-) -> Result<(Tree, u64), RunDirFault>
-where
-    D::Draft: Send,
-    ensures loaded { IfOk result (λ loaded. IsLoaded (D.lists dir.now) (Leads (D.looks dir.now) (D.reads dir.now)) loaded.0 loaded.1) }
-    ensures book { IfOk result (λ loaded. IsFileOrNone (D.refuses dir.now) loaded.0 path_of_book) }
-    ensures journal { IfOk result (λ loaded. IsFileOrNone (D.refuses dir.now) loaded.0 path_of_journal) }
-    ensures unread { IfErr result (IsUnread (D.lists dir.now) (D.looks dir.now) (D.reads dir.now) (D.refuses dir.now)) }
-{
-    let (tree, passed) = load(rt, alloc, dir, workers, cause)?;
-    check_places(dir, alloc, &tree, cause)?;
-    Ok((tree, passed))
-}
-
 /// Finds what a directory has, by at most N threads. Where that can't be done, the cause names where.
 pub(crate) fn list<T: Threads + Sync, D: WorkDir + Sync>(
     rt: &T,
@@ -166,10 +155,17 @@ where
     }
 }
 
+/// What a load is lent: threads, and memory.
+#[derive(Drop)]
+pub(crate) struct Lent<'a, T> {
+    pub rt: &'a T,
+    pub alloc: Global,
+}
+
 /// Reads the files that are wanted, and makes a tree of what was found. The book has to be a file if there is one, and the
 /// journal too.
-pub(crate) fn load_wanted<H: Threads + Sync, D: WorkDir + Sync, O>(
-    host: &Host<'_, H, O>,
+pub(crate) fn load_wanted<T: Threads + Sync, D: WorkDir + Sync>(
+    lent: &Lent<'_, T>,
     dir: &D,
     names: &mut Names,
     reading: Reading<'_>,
@@ -186,12 +182,15 @@ where
     ensures journal { IfOk result (λ tree. IsFileOrNone (D.refuses dir.now) tree path_of_journal) }
     ensures unread { IfErr result (IsUnread (D.lists dir.now) (D.looks dir.now) (D.reads dir.now) (D.refuses dir.now)) }
 {
-    match names.load(host.rt, dir, host.alloc(), reading) {
+    match names.load(lent.rt, dir, lent.alloc, reading) {
         Ok(tree) => {
-            check_places(dir, host.alloc(), &tree, cause)?;
+            check_places(dir, lent.alloc, &tree, cause)?;
             Ok(tree)
         }
-        Err(fault) => Err(unread(cause, fault)),
+        Err(fault) => {
+            note_too_large(cause, names);
+            Err(unread(cause, fault))
+        }
     }
 }
 

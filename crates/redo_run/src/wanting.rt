@@ -3,8 +3,11 @@
 
 use crate::foreseen::Foreseen;
 use redo_book::{Book, BookEntry, read_book};
-use redo_dir::{Names, Place, Wanted, WorkDir};
+use redo_dir::{Names, Place, Wanted, WorkDir, journal_path};
 use redo_names::PathSet;
+use redo_past::book_path;
+use redo_path::Path;
+use redo_tree::Tree;
 use redo_which::{BOOK, JOURNAL};
 use std::alloc::{AllocError, Global};
 
@@ -20,25 +23,10 @@ fn bytes_of(places: &[Place]) -> u64 {
     bytes
 }
 
-/// Whether something was found at the journal's place.
-fn has_journal(places: &[Place]) -> bool {
-    for place in places {
-        if place.path.text() == JOURNAL {
-            return true;
-        }
-    }
-    false
-}
-
-/// The book that stands in a directory, or none where it can't be read: a load then tells why.
-fn book_in<D: WorkDir>(alloc: Global, dir: &D, places: &[Place]) -> Option<Book> {
-    for place in places {
-        if place.path.text() == BOOK {
-            let text = dir.read(alloc, &place.path, place.size?).ok()?;
-            return read_book(alloc, &text).ok();
-        }
-    }
-    None
+/// The book that the file at a place has the text of, or none where it can't be read: a load then tells why.
+fn book_at<D: WorkDir>(alloc: Global, dir: &D, place: &Place) -> Option<Book> {
+    let text = dir.read(alloc, &place.path, place.size?).ok()?;
+    read_book(alloc, &text).ok()
 }
 
 /// Adds the paths that a book names.
@@ -54,44 +42,144 @@ fn add_named(paths: &mut PathSet, book: &Book) -> Result<(), AllocError> {
     Ok(())
 }
 
-/// The files to read where not all are: the scripts, the book, and what it names.
-pub(crate) fn wanted_by_name<D: WorkDir>(
+/// Adds the file at a place that is to have the text of a book, and what that names.
+fn add_book<D: WorkDir>(
+    alloc: Global,
+    dir: &D,
+    paths: &mut PathSet,
+    place: &Place,
+) -> Result<(), AllocError> {
+    paths.insert(place.path.clone()?)?;
+    if let Some(book) = book_at(alloc, dir, place) {
+        add_named(paths, &book)?;
+    }
+    Ok(())
+}
+
+/// The files to read where nothing is built: the book and the journal, and what both name. A journal that is
+/// recovered makes a book, so this is wanted then even if it isn't there.
+pub(crate) fn wanted_by_books<D: WorkDir>(
     alloc: Global,
     dir: &D,
     names: &Names,
 ) -> Result<Wanted, AllocError> {
     let mut paths = PathSet::new(alloc);
     for place in &names.found {
-        if place.path.text() == BOOK || place.path.text().ends_with(b".do") {
-            paths.insert(place.path.clone()?)?;
+        let path = place.path.text();
+        if path == BOOK || path == JOURNAL {
+            add_book(alloc, dir, &mut paths, place)?;
+            paths.insert(book_path(alloc)?)?;
         }
-    }
-    if let Some(book) = book_in(alloc, dir, &names.found) {
-        add_named(&mut paths, &book)?;
     }
     Ok(Wanted { all: false, paths })
 }
 
-/// The files to read first: all, where they have few bytes or a run was broken off.
+/// The files to read where not all are: these, and the scripts.
+pub(crate) fn wanted_by_name<D: WorkDir>(
+    alloc: Global,
+    dir: &D,
+    names: &Names,
+) -> Result<Wanted, AllocError> {
+    let mut wanted = wanted_by_books(alloc, dir, names)?;
+    for place in &names.found {
+        if place.path.text().ends_with(b".do") {
+            wanted.paths.insert(place.path.clone()?)?;
+        }
+    }
+    Ok(wanted)
+}
+
+/// Adds the file at a path, and what the book names that it has the text of in a tree.
+fn want_said(
+    alloc: Global,
+    wanted: &mut Wanted,
+    tree: &Tree,
+    path: Path,
+) -> Result<(), AllocError> {
+    if let Some(text) = tree.content(&path) {
+        if let Ok(book) = read_book(alloc, text.bytes()) {
+            add_named(&mut wanted.paths, &book)?;
+        }
+    }
+    wanted.paths.insert(path)?;
+    Ok(())
+}
+
+/// The places of files that couldn't be read, without those that were noted before. The book and the journal aren't among
+/// them.
+fn newly_refused(
+    alloc: Global,
+    places: &[Place],
+    refused: &PathSet,
+) -> Result<PathSet, AllocError> {
+    let mut unread = PathSet::new(alloc);
+    for place in places {
+        let path = place.path.text();
+        if place.refusal().is_some()
+            && path != BOOK
+            && path != JOURNAL
+            && !refused.contains(&place.path)
+        {
+            unread.insert(place.path.clone()?)?;
+        }
+    }
+    Ok(unread)
+}
+
+/// The files to read first: all, where they have few bytes.
 pub(crate) fn wanted_first<D: WorkDir>(
     alloc: Global,
     dir: &D,
     names: &Names,
 ) -> Result<Wanted, AllocError> {
-    if bytes_of(&names.found) <= FEW_BYTES || has_journal(&names.found) {
+    if bytes_of(&names.found) <= FEW_BYTES {
         let paths = PathSet::new(alloc);
         return Ok(Wanted { all: true, paths });
     }
     wanted_by_name(alloc, dir, names)
 }
 
-/// Adds what a build came to look into, or all files where it was over what a broken-off run has left.
+/// Adds what mending a tree looks into: the journal and the book, and what both name.
+pub(crate) fn want_mended(
+    alloc: Global,
+    wanted: &mut Wanted,
+    tree: &Tree,
+) -> Result<(), AllocError> {
+    want_said(alloc, wanted, tree, journal_path(alloc)?)?;
+    want_said(alloc, wanted, tree, book_path(alloc)?)
+}
+
+/// Wants no longer what couldn't be read, and notes that. It may be that nobody needs it; not so the book, the journal, and
+/// what was noted before and was wanted again. Answers whether any file is wanted no longer.
+pub(crate) fn want_less(
+    alloc: Global,
+    names: &Names,
+    wanted: &mut Wanted,
+    refused: &mut PathSet,
+) -> Result<bool, AllocError> {
+    let unread = newly_refused(alloc, &names.found, refused)?;
+    if unread.is_empty() {
+        return Ok(false);
+    }
+    let mut paths = PathSet::new(alloc);
+    for path in wanted.paths.as_slice() {
+        if !unread.contains(path) {
+            paths.insert(path.clone()?)?;
+        }
+    }
+    wanted.paths = paths;
+    for path in unread.into_paths() {
+        refused.insert(path)?;
+    }
+    Ok(true)
+}
+
+/// Adds what a build came to look into.
 pub(crate) fn want_more(
     alloc: Global,
     wanted: &mut Wanted,
     foreseen: &Foreseen,
 ) -> Result<(), AllocError> {
-    wanted.all = foreseen.plan.left.is_some();
     add_named(&mut wanted.paths, foreseen.run.past.book())?;
     for row in &foreseen.run.report.rows {
         for dep in row.deps.entries(alloc)? {

@@ -1,11 +1,8 @@
 -- What a run over a directory knows before it stores.
-use Rattle.std.specs.Prelude.{◌≡◌, ◌⊎◌, Bool, true, ℕ, List, Option, None, option_map}
+use Rattle.std.specs.Prelude.{◌≡◌, ◌⊎◌, Bool, ℕ, List, Option}
 use Rattle.std.specs.Arc.{arc_value}
 use Rattle.std.specs.declared.io.ErrorKind.{ErrorKind}
-use Rattle.redo_tree.specs.Tree.{IsTree, Tree, file_at}
-use Rattle.redo_which.specs.Candidates.{journal_path}
-use Rattle.redo_which.specs.Rule.{is_file}
-use Rattle.redo_record.specs.Paths.{IsAmong}
+use Rattle.redo_tree.specs.Tree.{IsTree, Tree}
 use Rattle.redo_dir.specs.Loaded.{IsLoaded, Leads, Looks, ReadIf, Reads}
 use Rattle.redo_mend.specs.Mended.{MendsTo}
 use Rattle.redo_reads.specs.Reads.{HasBook, IsCovered}
@@ -26,7 +23,6 @@ pub record IsForeseen (options : Options) (loaded : Tree) (passed : ℕ) (f : Fo
   pub mends : MendsTo loaded (arc_value f.mended)
   pub past : IsOfTree (to_build options (arc_value f.mended)) f.run.past
   pub built : IsBuilt (to_build options (arc_value f.mended)) options f.run.report f.run.book f.run.exit
-  pub journal : option_map (λ left. left.journal) f.plan.left ≡ file_at loaded journal_path
   pub left : steps_left f.plan ≡ clearing loaded (arc_value f.mended)
   pub new : steps_new (arc_value f.mended) f.plan ≡
       storing (arc_value f.mended) (to_store (arc_value f.mended) f.run.report.files.items f.run.book)
@@ -36,14 +32,9 @@ abbrev pub IsUnforeseenOver : Options → Tree → RunDirFault → Type 0
 IsUnforeseenOver options loaded fault =
     IsUnmended loaded fault ⊎ ((mended : Tree) × MendsTo loaded mended × IsUnbuilt (to_build options mended) options fault)
 
--- these paths have each file of the tree at one of those
-abbrev pub Covers : (List ℕ → Bool) → Tree → List (List ℕ) → Type 0
-Covers paths tree those = (p : List ℕ) → IsAmong those p → is_file tree p ≡ true → paths p ≡ true
-
--- the files at these paths are all that were looked into: there is no journal, and they have the book with what it names,
--- what each row of the report names, and what stands where it is stored
+-- the files at these paths are all that the build looked into: they have the book with what it names, what each row of the
+-- report names, and what stands where it is stored
 pub record IsCoveredBy (paths : List ℕ → Bool) (f : Foreseen) : Type 0 where
-  pub journal : f.plan.left ≡ None
   pub book : HasBook paths f.run.past.tree f.run.past.book
   pub rows : IsCovered paths f.run.past.sources f.run.report
   pub places : HasPlaces paths (arc_value f.mended) f.run.report

@@ -42,7 +42,6 @@ returns-clause-foreseen g c =
       mends = subst (MendsTo loaded) (sym same) c.in_ok-tree.ensures.mends;
       past = subst (λ (t : Tree). IsOfTree (to_build options t) built.past) (sym same) c.in_ok-mended.ensures.past;
       built = subst (λ (t : Tree). IsBuilt (to_build options t) options built.report built.book built.exit) (sym same) c.in_ok-mended.ensures.built;
-      journal = c.in_ok-tree.ensures.journal;
       left = subst (λ (t : Tree). steps_left plan ≡ clearing loaded t) (sym same) cleared;
       new = new_is_stored_by c.deref.result.now (arc_value mended) (arc_value mended) c.in_ok-new.new c.deref-2.result.now built.report.files.items built.book c.in_ok-new.ensures read refl c.deref-2.ensures.value;
     }

@@ -1,0 +1,9 @@
+use Rattle.std.proofs.Common.{take, ◌∷◌, []}
+use Rattle.std.specs.Prelude.{flat_map}
+use Rattle.redo_dir.specs.Loaded.{wants}
+use Rattle.redo_run.specs.Reading.{Covers}
+use Rattle.redo_run.proofs.coverage.targets_are_read.Given as goal
+
+-- the first ones were read
+abbrev pub invariant-loop-record : goal.invariant-loop-record
+invariant-loop-record l = Covers (wants l.wanted) l.tree (flat_map (λ r. r.target ∷ []) (take l.record-index l.records))
