@@ -8,7 +8,7 @@ use Rattle.redo_digest.specs.Digest.{state_of}
 use Rattle.redo_names.specs.Paths.{IsAmong, is_among}
 use Rattle.redo_names.proofs.ListLemmas.{IsAmong-left, IsAmong-right}
 use Rattle.redo_tree.specs.Tree as tree_words
-use Rattle.redo_tree.specs.Tree.{IsTree, Node, Tree, file_at, kind_of, node_at, without}
+use Rattle.redo_tree.specs.Tree.{IsTree, Node, Tree, file_at, kind_of, node_at}
 use Rattle.redo_tree.specs.declared.entries.Kind.{Kind}
 use Rattle.redo_tree.specs.declared.entries.Kind.TheVariants as kinds
 use Rattle.redo_which.specs.Candidates.{is_do_file}
@@ -16,7 +16,7 @@ use Rattle.redo_which.specs.Rule.{Found, is_rule}
 use Rattle.redo_book.specs.Book.{Record, record_at, targets_of}
 use Rattle.redo_book.specs.declared.book.BookEntry.{BookEntry}
 use Rattle.redo_book.specs.declared.book.BookEntry.TheVariants.{Change, Create, Always}
-use Rattle.redo_past.specs.Past.{IsPast, PastView, is_free, set_aside}
+use Rattle.redo_past.specs.Past.{IsPast, PastView, is_free}
 use Rattle.redo_skip.specs.Checks.{Check, Checks, has_state}
 use Rattle.redo_skip.specs.NewBook.{LastRun}
 use Rattle.redo_skip.specs.Sources.{Sources}
@@ -27,9 +27,9 @@ use Rattle.redo_why.specs.Verdicts.{Verdicts, holds_if, mark, mark_asked, verdic
 use Rattle.redo_explain.specs.Words.{reason_words}
 use Rattle.redo_list.specs.Lists.{ListedView}
 use Rattle.redo_list.specs.declared.listed.State.TheVariants as states
-use Rattle.redo_reads.specs.Reads.{AreNamedAlike, changed_in, named_by, named_in}
+use Rattle.redo_reads.specs.Reads.{AreNamedAlike, ArePastsAlike, changed_in, named_by, named_in}
 use Rattle.redo_reads.proofs.CheckLemmas.{check_named, checks_same, record_named}
-use Rattle.redo_reads.proofs.PastLemmas.{aside_same, without_agrees, without_alike}
+use Rattle.redo_reads.proofs.PastLemmas.{file_left, sources_alike, target_named}
 use Rattle.redo_reads.proofs.RunReadLemmas.{same_everywhere}
 use Rattle.redo_reads.proofs.SearchLemmas.{file_alike, found_alike, searches_alike}
 use Rattle.redo_ood.specs.Listing.{IsAskedAbout, IsList, Itself, RestsOn, Through, as_listed, first_waiting, listed_at}
@@ -97,7 +97,9 @@ module _ (given : GivenView) (now : PastView) (book_same : now.book ≡ given.pa
 
   checks_alike : checks_for other ≡ k
   checks_alike =
-      same_everywhere (checks_for other) k (checks_same s t last after given.request book_same ruled_alike named)
+      same_everywhere (checks_for other) k
+      (checks_same s t last after given.request book_same ruled_alike
+      (λ p m. named p (target_named given.past.book p m)))
 
   -- ---- verdicts
 
@@ -262,28 +264,18 @@ module _ (given : GivenView) (now : PastView) (is_one : IsTree given.past.tree) 
     (is_past : IsPast given.past) (is_now : IsPast now) (alike : AreNamedAlike given.past.tree now.tree)
     (book_same : now.book ≡ given.past.book)
     (same : (p : List ℕ) → IsAmong (named_in given.past.book) p → file_at now.tree p ≡ file_at given.past.tree p) where
-  abbrev aside : List (List ℕ)
-  aside = set_aside given.past.tree given.past.book
-
-  now_left : now.sources ≡ without now.tree aside
-  now_left =
-      is_now.sources
-      ∙ ap (λ (book : List Record). without now.tree (set_aside now.tree book)) book_same
-      ∙ ap (without now.tree) (aside_same given.past.tree now.tree given.past.book same)
-
-  sources_alike : AreNamedAlike given.past.sources now.sources
-  sources_alike =
-      subst (λ (x : Tree). AreNamedAlike x now.sources) (sym is_past.sources)
-      (subst (λ (x : Tree). AreNamedAlike (without given.past.tree aside) x) (sym now_left)
-      (without_alike given.past.tree now.tree is_one is_two aside alike))
-
-  file_left : (p : List ℕ) → file_at now.tree p ≡ file_at given.past.tree p →
-      file_at now.sources p ≡ file_at given.past.sources p
-  file_left p e =
-      ap (λ (x : Tree). file_at x p) now_left
-      ∙ without_agrees given.past.tree now.tree is_one is_two aside p e
-      ∙ ap (λ (x : Tree). file_at x p) (sym is_past.sources)
+  are : ArePastsAlike given.past now
+  are = record {
+    is_tree = is_one;
+    is_past = is_past;
+    other_tree = is_two;
+    other_past = is_now;
+    named = alike;
+    book = book_same;
+    targets = λ p m. same p (inr (target_named given.past.book p m));
+  }
 
   pub same_list : (listed : List ListedView) → IsList given listed → IsList (run_over now given.request given.limits) listed
   same_list =
-      list_there given now book_same sources_alike (λ p m. same p (inr m)) (λ p m. file_left p (same p (inr m)))
+      list_there given now book_same (sources_alike given.past now are) (λ p m. same p (inr m))
+      (λ p m. file_left given.past now are p (same p (inr m)))

@@ -1,6 +1,6 @@
 -- A build with a book looks at what the book names and at what its report names.
 use Rattle.std.proofs.Common.{Bool, ◌≡◌, ℕ, ◌≤◌, true, false, inl, Option, Some, None}
-use Rattle.std.proofs.Common.{List, flat_map, arith, refl, ap, subst, ◌∙◌}
+use Rattle.std.proofs.Common.{List, flat_map, arith, refl, sym, ap, subst, ◌∙◌}
 use Rattle.redo_tree.specs.Tree.{file_at}
 use Rattle.redo_which.specs.Rule.{is_rule}
 use Rattle.redo_record.specs.Paths.{IsAmong}
@@ -9,16 +9,18 @@ use Rattle.redo_record.specs.declared.deps.DepKind.TheVariants.{Change}
 use Rattle.redo_build.specs.Outcomes.{needed_at, outcome_at}
 use Rattle.redo_build.specs.Rules.{AreLawful, Rules}
 use Rattle.redo_build.proofs.DepthLemmas.{deeper, reached-target}
-use Rattle.redo_report.specs.Reports.{IsReport, deps_of}
+use Rattle.redo_book.specs.Book.{Record, record_at, targets_of}
+use Rattle.redo_book.specs.declared.book.BookEntry.{BookEntry}
+use Rattle.redo_report.specs.Reports.{IsReport, deps_of, row_paths}
 use Rattle.redo_report.specs.declared.report.Report.{Report}
 use Rattle.redo_past.specs.Past.{PastView}
 use Rattle.redo_rules.specs.Build.{GivenView, checks_for, last_run_of, rules_for, sources_for}
 use Rattle.redo_rules.proofs.Public.{lawful_for}
 use Rattle.redo_skip.specs.Checks.{Check, progress_checked, record_checked}
 use Rattle.redo_skip.specs.Sources.{Sources}
-use Rattle.redo_reads.specs.Reads.{AgreeOn, AreNamedAlike, HasReads, IsCovered, named_by}
+use Rattle.redo_reads.specs.Reads.{AgreeOn, AreNamedAlike, HasReads, IsCovered, changed_in}
 use Rattle.redo_reads.proofs.BuildLemmas.{Follow}
-use Rattle.redo_reads.proofs.CheckLemmas.{SameIn, begins_by, begins_same, begun_record, check_named, checks_same}
+use Rattle.redo_reads.proofs.CheckLemmas.{SameIn, begins_by, begins_same, begun_record, check_record, checks_same}
 use Rattle.redo_reads.proofs.CheckLemmas.{progress_same, record_same}
 use Rattle.redo_reads.proofs.ReportLemmas.{covered_read, record_covered, report_same, target_deps}
 use Rattle.redo_reads.proofs.RunReadLemmas.{AreRead, same_everywhere}
@@ -28,10 +30,9 @@ use Rattle.redo_reads.proofs.TargetLemmas.{RunsBegin, progress_grows, progress_r
 module _ (runs_begin : RunsBegin) (given : GivenView) (now : PastView) (paths : List ℕ → Bool) (report : Report)
     (book_same : now.book ≡ given.past.book) (alike : AreNamedAlike given.past.sources now.sources)
     (agree : AgreeOn paths given.past.sources now.sources)
-    (named : (p : List ℕ) → IsAmong (flat_map named_by given.past.book) p →
-    file_at now.tree p ≡ file_at given.past.tree p)
-    (named_sources : (p : List ℕ) → IsAmong (flat_map named_by given.past.book) p →
-    file_at now.sources p ≡ file_at given.past.sources p)
+    (targets : (p : List ℕ) → IsAmong (targets_of given.past.book) p → file_at now.tree p ≡ file_at given.past.tree p)
+    (checked : (p : List ℕ) → IsAmong (row_paths report) p → (x : Record) → record_at given.past.book p ≡ Some x →
+    (q : List ℕ) → IsAmong (flat_map changed_in x.entries) q → file_at now.sources q ≡ file_at given.past.sources q)
     (is : IsReport (rules_for given) given.request given.limits.targets report)
     (covered : IsCovered paths given.past.sources report) where
   abbrev bytes : ℕ
@@ -64,16 +65,19 @@ module _ (runs_begin : RunsBegin) (given : GivenView) (now : PastView) (paths : 
 
   check_alike : (p : List ℕ) → checks_for other p ≡ check p
   check_alike =
-      checks_same s t (last_run_of given.past) (last_run_of now) given.request book_same ruled_alike named
+      checks_same s t (last_run_of given.past) (last_run_of now) given.request book_same ruled_alike targets
 
-  same_in : (p : List ℕ) → SameIn given.past.sources now.sources alike bytes (check p)
-  same_in p = by_check (check p) refl
+  same_in : (p : List ℕ) → IsAmong (needed_at r given.request limit) p →
+      SameIn given.past.sources now.sources alike bytes (check p)
+  same_in p m = by_check (check p) refl
     where
       by_check : (o : Option Check) → check p ≡ o → SameIn given.past.sources now.sources alike bytes o
       by_check None e = tt
-      by_check (Some c) e = λ x m.
-          named_sources x
-          (check_named s (last_run_of given.past) given.request p c e x m)
+      by_check (Some c) e = λ x among.
+          let of : (y : Record) × (record_at given.past.book p ≡ Some y) × (y.entries ≡ c.entries) =
+          check_record s (last_run_of given.past) given.request p c e in
+          checked p ((is.rows p).1 (inl m)) of.0 of.1 x
+          (subst (λ (es : List BookEntry). IsAmong (flat_map changed_in es) x) (sym of.2) among)
 
   -- what a script that is begun has read
   own_read : (n : ℕ) → n ≤ limit → (p : List ℕ) → IsAmong (needed_at r given.request limit) p →
@@ -105,14 +109,14 @@ module _ (runs_begin : RunsBegin) (given : GivenView) (now : PastView) (paths : 
     ruled = same_everywhere q.has_rule r.has_rule ruled_alike;
     step = λ n le p m.
         ap (λ (c : Option Check). progress_checked t p c (outcome_at r n)) (check_alike p)
-        ∙ progress_same given.past.sources now.sources alike bytes p (check p) (outcome_at r n) (same_in p)
+        ∙ progress_same given.past.sources now.sources alike bytes p (check p) (outcome_at r n) (same_in p m)
         (own_same n le p m);
     begins = λ p m.
         ap (λ (c : Option Check). begins_by t c (outcome_at r limit)) (check_alike p)
-        ∙ begins_same given.past.sources now.sources alike bytes (check p) (outcome_at r limit) (same_in p);
+        ∙ begins_same given.past.sources now.sources alike bytes (check p) (outcome_at r limit) (same_in p m);
     recorded = λ p m.
         ap (λ (c : Option Check). record_checked t p c (outcome_at r limit)) (check_alike p)
-        ∙ record_same given.past.sources now.sources alike bytes p (check p) (outcome_at r limit) (same_in p)
+        ∙ record_same given.past.sources now.sources alike bytes p (check p) (outcome_at r limit) (same_in p m)
         (own_same limit (omega arith) p m);
   }
 

@@ -16,7 +16,7 @@ use Rattle.redo_which.specs.Rule.{is_rule}
 use Rattle.redo_record.specs.Answers.{Ask}
 use Rattle.redo_record.specs.Paths.{IsAmong, is_among}
 use Rattle.redo_record.specs.Progress.{Progress}
-use Rattle.redo_book.specs.Book.{Record, record_at}
+use Rattle.redo_book.specs.Book.{Record, record_at, targets_of}
 use Rattle.redo_book.specs.declared.book.BookEntry.{BookEntry}
 use Rattle.redo_book.specs.declared.book.BookEntry.TheVariants.{Change, Create, Always}
 use Rattle.redo_past.specs.Past.{is_free}
@@ -28,6 +28,7 @@ use Rattle.redo_skip.specs.Checks.{falls, lacks, shown, standing, stands, stands
 use Rattle.redo_skip.specs.NewBook.{LastRun, check_by, checks_of, is_valid}
 use Rattle.redo_skip.specs.Sources.{Sources}
 use Rattle.redo_reads.specs.Reads.{AreNamedAlike, changed_in, named_by}
+use Rattle.redo_reads.proofs.PastLemmas.{record_target}
 use Rattle.redo_reads.proofs.SearchLemmas.{file_alike, found_alike}
 
 -- whether a script is begun, by its check
@@ -171,29 +172,38 @@ record_named (first ∷ rest) p r e x m = elim (cases_Bool (bytes_eq first.targe
 abbrev check_of : List (List ℕ) → List ℕ → Sources → LastRun → Record → Option Check
 check_of request p s last r = cond (not (is_among request p) && is_valid s last r) (Some (check_by last r)) None
 
+-- a check has the entries of the target's record
+pub check_record : (s : Sources) (last : LastRun) (request : List (List ℕ)) (p : List ℕ) (c : Check) →
+    checks_of s last request p ≡ Some c → (r : Record) × (record_at last.book p ≡ Some r) × (r.entries ≡ c.entries)
+check_record s last request p c e = by_record (record_at last.book p) refl e
+  where
+    by_check : (r : Record) (b : Bool) → record_at last.book p ≡ Some r →
+        cond b (Some (check_by last r)) None ≡ Some c →
+        (r : Record) × (record_at last.book p ≡ Some r) × (r.entries ≡ c.entries)
+    by_check r true there is =
+        let same : check_by last r ≡ c = cc in (r, there, ap (λ (y : Check). y.entries) same)
+    by_check r false there is = absurd cc
+
+    by_record : (o : Option Record) → record_at last.book p ≡ o →
+        option_and_then (check_of request p s last) o ≡ Some c →
+        (r : Record) × (record_at last.book p ≡ Some r) × (r.entries ≡ c.entries)
+    by_record None there is = absurd cc
+    by_record (Some r) there is = by_check r (not (is_among request p) && is_valid s last r) there is
+
 -- what the entries of a check name, the book names
 pub check_named : (s : Sources) (last : LastRun) (request : List (List ℕ)) (p : List ℕ) (c : Check) →
     checks_of s last request p ≡ Some c → (x : List ℕ) → IsAmong (flat_map changed_in c.entries) x →
     IsAmong (flat_map named_by last.book) x
-check_named s last request p c e x m = by_record (record_at last.book p) refl e
-  where
-    by_check : (r : Record) (b : Bool) → record_at last.book p ≡ Some r →
-        cond b (Some (check_by last r)) None ≡ Some c → IsAmong (flat_map named_by last.book) x
-    by_check r true there is =
-        let same : check_by last r ≡ c = cc in
-        record_named last.book p r there x
-        (inr (subst (λ (y : Check). IsAmong (flat_map changed_in y.entries) x) (sym same) m))
-    by_check r false there is = absurd cc
-
-    by_record : (o : Option Record) → record_at last.book p ≡ o →
-        option_and_then (check_of request p s last) o ≡ Some c → IsAmong (flat_map named_by last.book) x
-    by_record None there is = absurd cc
-    by_record (Some r) there is = by_check r (not (is_among request p) && is_valid s last r) there is
+check_named s last request p c e x m =
+    let of : (r : Record) × (record_at last.book p ≡ Some r) × (r.entries ≡ c.entries) =
+    check_record s last request p c e in
+    record_named last.book p of.0 of.1 x
+    (inr (subst (λ (es : List BookEntry). IsAmong (flat_map changed_in es) x) (sym of.2) m))
 
 -- the same targets are in check, with the same files and entries
 pub checks_same : (s t : Sources) (last now : LastRun) (request : List (List ℕ)) → now.book ≡ last.book →
     ((p : List ℕ) → t.has_rule p ≡ s.has_rule p) →
-    ((p : List ℕ) → IsAmong (flat_map named_by last.book) p → now.file p ≡ last.file p) → (p : List ℕ) →
+    ((p : List ℕ) → IsAmong (targets_of last.book) p → now.file p ≡ last.file p) → (p : List ℕ) →
     checks_of t now request p ≡ checks_of s last request p
 checks_same s t last now request book ruled files p =
     ap (λ (records : List Record). option_and_then (check_of request p t now) (record_at records p)) book
@@ -206,4 +216,4 @@ checks_same s t last now request book ruled files p =
         ap₂ (λ (b : Bool) (file : Option (List ℕ)).
         cond (not (is_among request p) && (b && option_eq bytes_eq (state_of file) r.state))
         (Some (record { file = file; entries = r.entries })) None)
-        (ruled r.target) (files r.target (record_named last.book p r e r.target (inl refl)))
+        (ruled r.target) (files r.target (record_target last.book p r e))

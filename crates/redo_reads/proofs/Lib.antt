@@ -6,6 +6,7 @@ pub mod ReportLemmas
 pub mod PastLemmas
 pub mod CheckLemmas
 pub mod BookLemmas
+pub mod NamesLemmas
 pub mod NewBookLemmas
 pub mod ResultLemmas
 pub mod ReadsExamples

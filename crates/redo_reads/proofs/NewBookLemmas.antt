@@ -1,6 +1,6 @@
 -- The new book has what the old one, the rows and the files that these name tell.
 use Rattle.std.proofs.Common.{◌≡◌, ℕ, Bool, true, false, cond, inl, inr, Option}
-use Rattle.std.proofs.Common.{List, [], ◌∷◌, flat_map, refl, sym, ap, ap₂, subst, ◌∙◌}
+use Rattle.std.proofs.Common.{List, [], ◌∷◌, refl, sym, ap, ap₂, subst, ◌∙◌}
 use Rattle.std.specs.Prelude.{Contains}
 use Rattle.std.specs.Arc.{arc_value}
 use Rattle.std.specs.Option.{option_or}
@@ -8,7 +8,6 @@ use Rattle.std.specs.Str.{bytes_eq}
 use Rattle.std.proofs.lemmas.Bool.{and_from, or_left, or_right}
 use Rattle.std.proofs.lemmas.List.Elements.{All-contains}
 use Rattle.std.proofs.lemmas.Slice.Eq.{bytes_eq-Decides}
-use Rattle.redo_names.proofs.ListLemmas.{IsAmong-left, IsAmong-right}
 use Rattle.redo_digest.specs.Digest.{state_of}
 use Rattle.redo_tree.specs.Tree.{Tree, file_at}
 use Rattle.redo_which.specs.Rule.{found_of, is_rule}
@@ -18,7 +17,7 @@ use Rattle.redo_record.specs.Paths.{IsAmong}
 use Rattle.redo_record.specs.declared.deps.Dep.{Dep}
 use Rattle.redo_record.specs.declared.deps.DepKind.{DepKind}
 use Rattle.redo_record.specs.declared.deps.DepKind.TheVariants.{Always, Change, Create}
-use Rattle.redo_book.specs.Book.{Record}
+use Rattle.redo_book.specs.Book.{Record, targets_of}
 use Rattle.redo_book.specs.Noted.{entry_as, is_notable, noted}
 use Rattle.redo_book.specs.declared.book.BookEntry.{BookEntry}
 use Rattle.redo_report.specs.declared.report.Report.{Report}
@@ -26,7 +25,7 @@ use Rattle.redo_report.specs.declared.report.Row.{Row}
 use Rattle.redo_past.specs.NewBook.{IsCarried, IsOfRow, IsResultOf, built_at, notable, record_of_row, state_after}
 use Rattle.redo_past.specs.Past.{PastView}
 use Rattle.redo_past.proofs.ItemLemmas.{IsItem, contained-item}
-use Rattle.redo_reads.specs.Reads.{AgreeOn, AreNamedAlike, HasReads, IsCovered, named_by}
+use Rattle.redo_reads.specs.Reads.{AgreeOn, AreNamedAlike, HasReads, IsCovered}
 use Rattle.redo_reads.proofs.ReportLemmas.{covered_read}
 use Rattle.redo_reads.proofs.RunReadLemmas.{AreRead}
 use Rattle.redo_reads.proofs.SearchLemmas.{found_alike}
@@ -75,7 +74,7 @@ module _ (one two : Tree) (rows : List Row) where
 
 module _ (paths : List ℕ → Bool) (past now : PastView) (book_same : now.book ≡ past.book)
     (alike : AreNamedAlike past.sources now.sources) (agree : AgreeOn paths past.sources now.sources)
-    (named : (p : List ℕ) → IsAmong (flat_map named_by past.book) p → file_at now.tree p ≡ file_at past.tree p)
+    (targets : (p : List ℕ) → IsAmong (targets_of past.book) p → file_at now.tree p ≡ file_at past.tree p)
     (report : Report) (covered : IsCovered paths past.sources report) where
   read_in : (row : Row) → Contains report.rows.items row →
       AreRead (file_at past.sources) (file_at now.sources) (arc_value row.deps)
@@ -89,15 +88,13 @@ module _ (paths : List ℕ → Bool) (past now : PastView) (book_same : now.book
   record_in row listed = row_same past.sources now.sources report.rows.items row (read_in row listed)
 
   target_in : (r : Record) → Contains past.book r → file_at now.tree r.target ≡ file_at past.tree r.target
-  target_in r listed = named r.target (listed_named past.book r (contained-item past.book r listed))
+  target_in r listed = targets r.target (listed_target past.book r (contained-item past.book r listed))
     where
-      listed_named : (rs : List Record) (x : Record) → IsItem rs x → IsAmong (flat_map named_by rs) x.target
-      listed_named [] x m = absurd m
-      listed_named (y ∷ rs) x m = elim m [
-        | inl here ↦
-            IsAmong-left (named_by y) (flat_map named_by rs) x.target
-            (subst (λ (z : Record). IsAmong (named_by y) z.target) here (inl refl))
-        | inr later ↦ IsAmong-right (named_by y) (flat_map named_by rs) x.target (listed_named rs x later)
+      listed_target : (rs : List Record) (x : Record) → IsItem rs x → IsAmong (targets_of rs) x.target
+      listed_target [] x m = absurd m
+      listed_target (y ∷ rs) x m = elim m [
+        | inl here ↦ inl (ap (λ (z : Record). z.target) here)
+        | inr later ↦ inr (listed_target rs x later)
       ]
 
   rule_in : (p : List ℕ) → is_rule (found_of now.sources p) ≡ is_rule (found_of past.sources p)

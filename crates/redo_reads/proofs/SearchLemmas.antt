@@ -101,7 +101,7 @@ module _ (one two : Tree) (alike : AreNamedAlike one two) where
   up_alike None = refl
   up_alike (Some dir) = alike dir
 
-  chosen_alike : (target : List ℕ) → chosen_of two target ≡ chosen_of one target
+  pub chosen_alike : (target : List ℕ) → chosen_of two target ≡ chosen_of one target
   chosen_alike target =
       ap (λ (f : List ℕ → Bool). find (λ (p : Place). f p.do_file) (candidates_of target)) files_alike
 

@@ -7,7 +7,7 @@ ghost use Rattle.redo_rules.specs.Results.{IsGiven, IsRefused, IsResult, IsResul
 ghost use Rattle.redo_step.specs.Limits.{LimitsView};
 ghost use Rattle.redo_tree.specs.Tree.{IsTree, Tree};
 ghost use Rattle.redo_which.specs.Candidates.{book_path};
-ghost use Rattle.redo_reads.specs.Reads.{AgreeOn, AreNamedAlike, HasBook, IsCovered};
+ghost use Rattle.redo_reads.specs.Reads.{AgreeOn, AreNamedAlike, HasChecked, IsCovered};
 
 use redo_step::more_answers;
 
@@ -23,13 +23,13 @@ pub fn reports_rest_on_what_they_name()
     more_answers();
 }
 
-/// With a book, the report of a tree depends on the book and on what that names, too: it is that of each tree with
-/// the same names that agrees on those, with the same rows, begun scripts, files and new book. If the book is refused,
-/// it is so for the same line.
+/// With a book, the report of a tree depends on the book, on the files at its targets and on what it names of the
+/// report's targets, too: it is that of each tree with the same names that agrees on those, with the same rows, begun
+/// scripts, files and new book. If the book is refused, it is so for the same line.
 pub fn results_rest_on_what_they_name()
     ensures result { (one two : Tree) (request : List (List ℕ)) (limits : LimitsView) (given : GivenView)
         (paths : List ℕ → Bool) (result : Report) → IsTree one → IsTree two → IsGiven one request limits given →
-        AreNamedAlike one two → AgreeOn paths one two → HasBook paths one given.past.book →
+        AreNamedAlike one two → AgreeOn paths one two → HasChecked paths one given.past.book result →
         IsResult given result → IsCovered paths given.past.sources result → IsResultOn two request limits result }
     ensures refused { (one two : Tree) (paths : List ℕ → Bool) (n : ℕ) → AgreeOn paths one two →
         paths book_path ≡ true → IsRefused one n → IsRefused two n }
