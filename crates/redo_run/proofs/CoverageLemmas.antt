@@ -15,12 +15,12 @@ use Rattle.redo_record.specs.Entries.{is_entered, same_kind}
 use Rattle.redo_record.specs.declared.deps.Dep.{Dep}
 use Rattle.redo_record.specs.declared.deps.DepKind.{DepKind}
 use Rattle.redo_record.specs.declared.deps.DepKind.TheVariants.{Change}
-use Rattle.redo_reads.specs.Reads.{HasReads}
+use Rattle.redo_reads.specs.Reads.{Covers, HasReads}
 use Rattle.redo_tree.specs.Tree.{Tree, file_at}
 use Rattle.redo_which.specs.Rule.{is_file}
 use Rattle.redo_which.specs.Candidates.{book_path, journal_path}
 use Rattle.redo_report.specs.declared.report.Report.{Report}
-use Rattle.redo_run.specs.Reading.{Covers, HasMended, HasPlaces}
+use Rattle.redo_run.specs.Reading.{HasMended, HasPlaces}
 
 or_second : (a b : Bool) → b ≡ true → (a || b) ≡ true
 or_second true b h = refl

@@ -1,5 +1,5 @@
 -- What a run over a directory comes to, step by step.
-use Rattle.std.proofs.Common.{◌≡◌, ◌∙◌, ℕ, Bool, true, List, [], ◌∷◌, inl, inr, refl, sym, ap, subst, Option, Some, None, ◌⊎◌}
+use Rattle.std.proofs.Common.{◌≡◌, ◌∙◌, ℕ, Bool, true, List, inl, inr, refl, sym, ap, subst, Option, Some, None}
 use Rattle.std.specs.Prelude.{IfErr, IfOk, Result, Ok, Err, option_and_then}
 use Rattle.std.specs.Arc.{arc_value}
 use Rattle.std.specs.declared.io.ErrorKind.{ErrorKind}
@@ -10,11 +10,11 @@ use Rattle.redo_dir.specs.Stored.{Step}
 use Rattle.redo_mend.specs.Mended.{MendsTo}
 use Rattle.redo_past.specs.Past.{IsPast, PastView}
 use Rattle.redo_path.proofs.ApartLemmas.{apart}
-use Rattle.redo_reads.specs.Reads.{AgreeOn, AreNamedAlike, HasBook, IsCovered}
+use Rattle.redo_reads.specs.Reads.{AgreeOn, AreNamedAlike, HasChecked, IsCovered}
 use Rattle.redo_report.specs.declared.report.Report.{Report}
 use Rattle.redo_tree.specs.Tree.{Directory, File, IsTree, Node, Tree, bytes_of, file_at, kind_of, node_at}
 use Rattle.redo_tree.proofs.KeptLemmas.{one_sorted}
-use Rattle.redo_run.specs.Directories.{Decides, FallsInPreview, IsBuilt, IsFaultOf, IsUnread, Ran, steps_of}
+use Rattle.redo_run.specs.Directories.{AreFilesOrNone, Decides, FallsInPreview, IsBuilt, IsFaultOf, IsUnread, Ran, steps_of}
 use Rattle.redo_run.specs.Directories.{to_build}
 use Rattle.redo_run.specs.Reading.{HasMended, HasRead, MendsAlike}
 use Rattle.redo_run.specs.Storing.{clearing, storing, to_store}
@@ -74,7 +74,7 @@ module _ (lists : List ℕ → List (Option (List ℕ)) → Type 0) (looks : Loo
   unforeseen Memory h = inl refl
   unforeseen _ h = absurd h
 
-  pub undone_fault : (r : Ran lists looks reads options) (after : List Step) (fault : RunDirFault) → IsPart told (clearing r.loaded r.mended) (storing r.mended (to_store r.mended r.report.files.items r.book)) before after fault → IsFaultOf lists looks reads refuses told options before after fault
+  pub undone_fault : (r : Ran lists looks reads refuses options) (after : List Step) (fault : RunDirFault) → IsPart told (clearing r.loaded r.mended) (storing r.mended (to_store r.mended r.report.files.items r.book)) before after fault → IsFaultOf lists looks reads refuses told options before after fault
   undone_fault r after (Store place) h = (r, h)
   undone_fault r after Journal h = (r, h)
   undone_fault r after Left h = (r, h.0, h.1, h.2)
@@ -99,16 +99,17 @@ one_node (Some (File bytes)) (Some (File others)) k f = let same : bytes ≡ oth
 pub same_tree : (one two : Tree) → IsTree one → IsTree two → AreNamedAlike one two → ((p : List ℕ) → file_at two p ≡ file_at one p) → two ≡ one
 same_tree one two is_one is_two alike same = one_sorted two one is_two.sorted is_one.sorted (λ p. one_node (node_at two p) (node_at one p) (alike p) (same p))
 
-module _ (lists : List ℕ → List (Option (List ℕ)) → Type 0) (looks : Looks) (reads : Reads) (options : Options) (f : Foreseen) where
+module _ (lists : List ℕ → List (Option (List ℕ)) → Type 0) (looks : Looks) (reads : Reads) (refuses : List ℕ → ErrorKind → Type 0) (options : Options) (f : Foreseen) where
   -- all files decide
-  pub decided_all : (wanted : Wanted) → wanted.all ≡ true → IsLoadedAnd lists looks (ReadIf (wants wanted) reads) options f → IsDecided lists looks reads options f
-  decided_all wanted all (loaded, l, is) =
+  pub decided_all : (wanted : Wanted) → wanted.all ≡ true → IsLoadedAnd lists looks (ReadIf (wants wanted) reads) refuses options f → IsDecided lists looks reads refuses options f
+  decided_all wanted all (loaded, l, own, is) =
       let report = f.run.report in let book = f.run.book in let exit = f.run.exit in
       let Is : Tree → Type 0 = λ tree. (mended : Tree) × MendsTo tree mended × IsBuilt (to_build options mended) options report book exit × (steps_of tree mended report book ≡ steps_of loaded (arc_value f.mended) report book) in
       record {
         paths = wants wanted;
         loaded = loaded;
         is_loaded = l;
+        own = own;
         foreseen = is;
         decides = λ tree is_tree alike agree.
             let same = same_tree loaded tree is.is_tree is_tree alike (λ p. agree p (rw all refl)) in
@@ -147,7 +148,7 @@ module _ (mends : Mends) (builds : Builds) (steps : Steps) (one_past : OnePast) 
   read : HasRead paths mended options f.run.report f.run.book f.run.exit
   read = record {
     built = built;
-    has_book = subst (λ (q : PastView). HasBook paths (to_build options mended) q.book) (sym past) (subst (λ (t : Tree). HasBook paths t f.run.past.book) is.past.of_tree c.book);
+    has_book = subst (λ (q : PastView). HasChecked paths (to_build options mended) q.book f.run.report) (sym past) (subst (λ (t : Tree). HasChecked paths t f.run.past.book f.run.report) is.past.of_tree c.book);
     has_rows = subst (λ (q : PastView). IsCovered paths q.sources f.run.report) (sym past) c.rows;
     has_places = c.places;
   }
@@ -162,11 +163,12 @@ module _ (mends : Mends) (builds : Builds) (steps : Steps) (one_past : OnePast) 
       )
 
 -- the files that were read decide, if they are all that was looked into
-pub decided_part : Mends → Builds → Steps → OnePast → (lists : List ℕ → List (Option (List ℕ)) → Type 0) (looks : Looks) (reads : Reads) (options : Options) (f : Foreseen) (paths : List ℕ → Bool) (loaded : Tree) (passed : ℕ) → IsCoveredBy paths f → HasMended paths loaded → IsLoaded lists (Leads looks (ReadIf paths reads)) loaded passed → IsForeseen options loaded passed f → IsDecided lists looks reads options f
-decided_part mends builds steps one_past lists looks reads options f paths loaded passed c has l is = record {
+pub decided_part : Mends → Builds → Steps → OnePast → (lists : List ℕ → List (Option (List ℕ)) → Type 0) (looks : Looks) (reads : Reads) (refuses : List ℕ → ErrorKind → Type 0) (options : Options) (f : Foreseen) (paths : List ℕ → Bool) (loaded : Tree) (passed : ℕ) → IsCoveredBy paths f → HasMended paths loaded → IsLoaded lists (Leads looks (ReadIf paths reads)) loaded passed → AreFilesOrNone refuses loaded → IsForeseen options loaded passed f → IsDecided lists looks reads refuses options f
+decided_part mends builds steps one_past lists looks reads refuses options f paths loaded passed c has l own is = record {
   paths = paths;
   loaded = loaded;
   is_loaded = subst (IsLoaded lists (Leads looks (ReadIf paths reads)) loaded) (sym is.counted) l;
+  own = own;
   foreseen = subst (λ n. IsForeseen options loaded n f) (sym is.counted) is;
   decides = covered_decides mends builds steps one_past options paths f loaded passed is c has;
 }
@@ -175,13 +177,14 @@ decided_part mends builds steps one_past lists looks reads options f paths loade
 
 module _ (lists : List ℕ → List (Option (List ℕ)) → Type 0) (looks : Looks) (paths : List ℕ → Bool) (reads : Reads) (refuses : List ℕ → ErrorKind → Type 0) (options : Options) (loaded : Tree) (passed later : ℕ) (same : later ≡ passed) (l : IsLoaded lists (Leads looks (ReadIf paths reads)) loaded passed) where
   -- what is foreseen of the tree that was loaded
-  pub attempted : (result : Result Foreseen RunDirFault) → IfOk result (IsForeseen options loaded later) → IfOk result (IsLoadedAnd lists looks (ReadIf paths reads) options)
-  attempted (Ok f) is = (
+  pub attempted : AreFilesOrNone refuses loaded → (result : Result Foreseen RunDirFault) → IfOk result (IsForeseen options loaded later) → IfOk result (IsLoadedAnd lists looks (ReadIf paths reads) refuses options)
+  attempted own (Ok f) is = (
     loaded,
     subst (IsLoaded lists (Leads looks (ReadIf paths reads)) loaded) (sym (is.counted ∙ same)) l,
+    own,
     subst (λ n. IsForeseen options loaded n f) (sym is.counted) is,
   )
-  attempted (Err fault) is = tt
+  attempted own (Err fault) is = tt
 
   pub not_attempted : (result : Result Foreseen RunDirFault) → IfErr result (IsUnforeseenOver options loaded) → IfErr result (IsUnloadedOr lists looks paths reads refuses options)
   not_attempted (Ok f) h = tt
@@ -189,8 +192,8 @@ module _ (lists : List ℕ → List (Option (List ℕ)) → Type 0) (looks : Loo
 
 -- the last round
 module _ (lists : List ℕ → List (Option (List ℕ)) → Type 0) (looks : Looks) (reads : Reads) (refuses : List ℕ → ErrorKind → Type 0) (options : Options) (wanted : Wanted) (all : wanted.all ≡ true) where
-  pub attempted_all : (result : Result Foreseen RunDirFault) → IfOk result (IsLoadedAnd lists looks (ReadIf (wants wanted) reads) options) → IfOk result (IsDecided lists looks reads options)
-  attempted_all (Ok f) is = decided_all lists looks reads options f wanted all is
+  pub attempted_all : (result : Result Foreseen RunDirFault) → IfOk result (IsLoadedAnd lists looks (ReadIf (wants wanted) reads) refuses options) → IfOk result (IsDecided lists looks reads refuses options)
+  attempted_all (Ok f) is = decided_all lists looks reads refuses options f wanted all is
   attempted_all (Err fault) is = tt
 
   pub not_attempted_all : (result : Result Foreseen RunDirFault) → IfErr result (IsUnloadedOr lists looks (wants wanted) reads refuses options) → IfErr result (IsUnforeseen lists looks reads refuses options)

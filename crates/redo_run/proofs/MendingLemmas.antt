@@ -1,16 +1,13 @@
 -- Trees with the same names that agree on what mending looks into: they are mended alike.
 use Rattle.std.proofs.Common.{◌≡◌, ◌≢◌, ◌↔◌, ◌⊎◌, ◌∷◌, ◌++◌, ◌&&◌, ◌∙◌, ℕ, Bool, true, false, not, List, [], Option, Some, None, filter}
-use Rattle.std.proofs.Common.{inl, inr, is_some, map, refl, sym, ap, ap₂, subst, if◌then◌else◌, nat_eq}
-use Rattle.std.specs.Prelude.{MatchOption, Ok, option_and_then, option_map}
-use Rattle.std.specs.Cmp.Lexicographic.{pointwise, slice_cmp}
-use Rattle.std.specs.List.Sorted.{IsStrictlySortedBy}
-use Rattle.std.specs.Map.{keys_of}
+use Rattle.std.proofs.Common.{inl, inr, is_some, refl, sym, ap, ap₂, subst, if◌then◌else◌, nat_eq}
+use Rattle.std.specs.Prelude.{MatchOption, option_and_then}
+use Rattle.std.specs.Cmp.Lexicographic.{pointwise}
 use Rattle.std.specs.Option.{option_eq, option_or}
-use Rattle.std.specs.Ordering.{is_eq, nat_cmp}
 use Rattle.std.specs.Str.{bytes_eq}
 use Rattle.std.proofs.lemmas.Bool.{cases_Bool}
 use Rattle.std.proofs.lemmas.Slice.Eq.{bytes_eq-Decides}
-use Rattle.redo_book.specs.Book.{IsText, Record, book_lines, targets_of, text_of}
+use Rattle.redo_book.specs.Book.{Record, book_lines, targets_of, text_of}
 use Rattle.redo_dir.specs.Own.{is_own}
 use Rattle.redo_dir.specs.Storing.{steps_to_clear}
 use Rattle.redo_digest.specs.Digest.{state_of}
@@ -22,62 +19,20 @@ use Rattle.redo_past.specs.Past.{IsBookOf}
 use Rattle.redo_past.proofs.OrderLemmas.{same_path}
 use Rattle.redo_path.proofs.ApartLemmas.{apart}
 use Rattle.redo_reads.specs.Reads.{AgreeOn, AreNamedAlike}
+use Rattle.redo_reads.proofs.NamesLemmas.{keys_alike}
 use Rattle.redo_reads.proofs.PastLemmas.{without_agrees, without_alike}
 use Rattle.redo_reads.proofs.ReportLemmas.{agreed_file}
 use Rattle.redo_reads.proofs.RunReadLemmas.{same_everywhere}
 use Rattle.redo_reads.proofs.SearchLemmas.{file_alike}
 use Rattle.redo_record.specs.Paths.{IsAmong}
-use Rattle.redo_tree.specs.Tree.{Directory, File, IsTree, Node, Tree, added, bytes_of, file_at, is_file_among, kind_of, node_at, refusal}
+use Rattle.redo_tree.specs.Tree.{Directory, File, IsTree, Node, Tree, bytes_of, file_at, is_file_among, kind_of, node_at, refusal}
 use Rattle.redo_tree.specs.Tree.{with_node, without}
 use Rattle.redo_tree.specs.declared.entries.Kind.TheVariants as kinds
 use Rattle.redo_tree.proofs.GrowLemmas.{added-free}
-use Rattle.redo_tree.proofs.KeptLemmas.{one_sorted}
 use Rattle.redo_tree.proofs.WithoutLemmas.{IsTree-without, node_at-without, passing, stood}
 use Rattle.redo_which.specs.Candidates.{book_path, journal_path}
 use Rattle.redo_run.specs.Reading.{HasMended, MendsAlike}
 use Rattle.redo_run.specs.Storing.{clearing}
-
--- ---- the names of a tree
-
--- a tree of which only the names are left
-abbrev bare : Node → Node
-bare Directory = Directory
-bare (File bytes) = File []
-
-abbrev names : Tree → Tree
-names tree = map (λ e. (e.0, bare e.1)) tree
-
-at_names : (tree : Tree) (q : List ℕ) → node_at (names tree) q ≡ option_map bare (node_at tree q)
-at_names [] q = refl
-at_names (e ∷ es) q = elim (cases_Bool (is_eq (slice_cmp nat_cmp q e.0))) [
-  | inl at ↦ rw at refl
-  | inr other ↦ rw other (at_names es q)
-]
-
-keys_names : (tree : Tree) → keys_of (names tree) ≡ keys_of tree
-keys_names [] = refl
-keys_names (e ∷ es) = ap (λ (ps : List (List ℕ)). e.0 ∷ ps) (keys_names es)
-
-same_bare : (m n : Option Node) → kind_of n ≡ kind_of m → option_map bare n ≡ option_map bare m
-same_bare None None k = refl
-same_bare None (Some Directory) k = apart cc
-same_bare None (Some (File bytes)) k = apart cc
-same_bare (Some Directory) None k = apart cc
-same_bare (Some Directory) (Some Directory) k = refl
-same_bare (Some Directory) (Some (File bytes)) k = apart cc
-same_bare (Some (File bytes)) None k = apart cc
-same_bare (Some (File bytes)) (Some Directory) k = apart cc
-same_bare (Some (File bytes)) (Some (File others)) k = refl
-
--- trees with the same names have the same paths
-pub keys_alike : (one two : Tree) → IsTree one → IsTree two → AreNamedAlike one two → keys_of two ≡ keys_of one
-keys_alike one two is_one is_two alike =
-    let sorted : (tree : Tree) → IsTree tree → IsStrictlySortedBy (slice_cmp nat_cmp) (keys_of (names tree)) =
-    λ tree is. subst (IsStrictlySortedBy (slice_cmp nat_cmp)) (sym (keys_names tree)) is.sorted in
-    let same : names two ≡ names one =
-    one_sorted (names two) (names one) (sorted two is_two) (sorted one is_one) (λ q.
-    at_names two q ∙ same_bare (node_at one q) (node_at two q) (alike q) ∙ sym (at_names one q)) in
-    sym (keys_names two) ∙ ap keys_of same ∙ keys_names one
 
 -- ---- kinds
 

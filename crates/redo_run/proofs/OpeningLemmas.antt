@@ -16,12 +16,12 @@ use Rattle.redo_dir.specs.declared.clearing.Left.{Left}
 use Rattle.redo_mend.specs.Mended.{MendsTo, book_to_put, own_files}
 use Rattle.redo_path.proofs.ApartLemmas.{apart}
 use Rattle.redo_past.specs.Past.{IsBookOf, IsPast, PastView, set_aside}
-use Rattle.redo_reads.specs.Reads.{AgreeOn, AreNamedAlike, HasBook}
-use Rattle.redo_reads.proofs.PastLemmas.{named_same}
+use Rattle.redo_reads.specs.Reads.{AgreeOn, AreNamedAlike, HasBook, named_in}
+use Rattle.redo_reads.proofs.PastLemmas.{covered_same, target_named}
 use Rattle.redo_reads.proofs.ReportLemmas.{agreed_file}
 use Rattle.redo_reads.proofs.SearchLemmas.{file_alike}
 use Rattle.redo_run.specs.DirFaults.{of_past}
-use Rattle.redo_run.specs.Directories.{IsFileOrNone, IsUnread}
+use Rattle.redo_run.specs.Directories.{AreFilesOrNone, IsUnread}
 use Rattle.redo_run.specs.Opening.{DecidesOpened, HasLeft, IsOpened, IsOpenedOf, IsUnopened, IsUnopenedOf}
 use Rattle.redo_run.specs.Reading.{HasMended, MendsAlike}
 use Rattle.redo_run.specs.declared.dir_fault.RunDirFault.{RunDirFault}
@@ -83,12 +83,20 @@ module _ (paths : List ℕ → Bool) (loaded : Tree) (passed : ℕ) (opened : Op
   pub decided_by : Mends → HasMended paths loaded → HasBook paths opened.past.tree opened.past.book → DecidesOpened paths loaded opened
   decided_by law has_mended has_book tree is_tree alike agree =
       let found = law loaded tree opened.past.tree paths is.is_tree is_tree alike agree has_mended is.mends in
-      let same = named_same paths opened.past.tree found.0 opened.past.book found.1.named found.1.agrees has_book in
+      let same = covered_same paths opened.past.tree found.0 (named_in opened.past.book) found.1.named found.1.agrees has_book in
       let new : file_at found.0 book_path ≡ file_at opened.past.tree book_path = same book_path (inl refl) in (
         with_its_book opened.past is.past found.0,
-        is_with_its_book opened.past is.past found.0 new,
         found.1,
-        record { book = refl; files = same },
+        record {
+          is_tree = is.mended;
+          is_past = is.past;
+          other_tree = found.1.is_tree;
+          other_past = is_with_its_book opened.past is.past found.0 new;
+          named = found.1.named;
+          book = refl;
+          targets = λ p m. same p (inr (target_named opened.past.book p m));
+        },
+        same,
         left_same paths loaded tree opened.past.tree found.0 is.is_tree is_tree alike agree has_mended found.1.named new
             opened.left is.left,
       )
@@ -98,28 +106,35 @@ module _ (paths : List ℕ → Bool) (loaded : Tree) (passed : ℕ) (opened : Op
   decided_by_all all tree is_tree alike agree =
       let same : tree ≡ loaded = same_tree loaded tree is.is_tree is_tree alike (λ p. agree p (all p)) in (
         opened.past,
-        is.past,
         record {
           mends = subst (λ (t : Tree). MendsTo t opened.past.tree) (sym same) is.mends;
           is_tree = is.mended;
           named = λ p. refl;
           agrees = λ p m. refl;
         },
-        record { book = refl; files = λ p m. refl },
+        record {
+          is_tree = is.mended;
+          is_past = is.past;
+          other_tree = is.mended;
+          other_past = is.past;
+          named = λ p. refl;
+          book = refl;
+          targets = λ p m. refl;
+        },
+        λ p m. refl,
         subst (λ (t : Tree). HasLeft t opened.past.tree opened.left) (sym same) is.left,
       )
 
 -- ---- what was opened
 
 module _ (lists : List ℕ → List (Option (List ℕ)) → Type 0) (looks : Looks) (reads : Reads) (refuses : List ℕ → ErrorKind → Type 0) where
-  module _ (paths : List ℕ → Bool) (loaded : Tree) (passed : ℕ) (opened : Opened) (l : IsLoaded lists (Leads looks (ReadIf paths reads)) loaded passed) (book : IsFileOrNone refuses loaded book_path) (journal : IsFileOrNone refuses loaded journal_path) (is : IsOpenedOf loaded passed opened) where
+  module _ (paths : List ℕ → Bool) (loaded : Tree) (passed : ℕ) (opened : Opened) (l : IsLoaded lists (Leads looks (ReadIf paths reads)) loaded passed) (own : AreFilesOrNone refuses loaded) (is : IsOpenedOf loaded passed opened) where
     opened_by : HasBook paths opened.past.tree opened.past.book → DecidesOpened paths loaded opened → IsOpened lists looks reads refuses opened
     opened_by has_book decides = record {
       paths = paths;
       loaded = loaded;
       is_loaded = subst (IsLoaded lists (Leads looks (ReadIf paths reads)) loaded) (sym is.counted) l;
-      book = book;
-      journal = journal;
+      own = own;
       is = subst (λ (n : ℕ). IsOpenedOf loaded n opened) (sym is.counted) is;
       has_book = has_book;
       decides = decides;

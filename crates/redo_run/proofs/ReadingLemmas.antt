@@ -1,5 +1,5 @@
 -- Trees with the same names that agree on what a run looks into: it does the same over both.
-use Rattle.std.proofs.Common.{◌≡◌, ℕ, Bool, not, inl, inr, Option, Some, None, List, [], ◌∷◌, ◌++◌, map}
+use Rattle.std.proofs.Common.{◌≡◌, ℕ, Bool, not, inl, inr, Option, Some, None, List, [], ◌∷◌, ◌++◌, flat_map, map}
 use Rattle.std.proofs.Common.{if◌then◌else◌, length, nat_eq, refl, sym, ap, ap₂, subst, ◌∙◌, ◌==◌, ◌⊎◌}
 use Rattle.std.specs.Prelude.{All}
 use Rattle.std.specs.Arc.{arc_value}
@@ -8,9 +8,10 @@ use Rattle.std.specs.List.{list_any}
 use Rattle.std.specs.Option.{option_eq}
 use Rattle.std.proofs.lemmas.Bool.{cases_Bool}
 use Rattle.redo_record.specs.Paths.{IsAmong, with_new}
+use Rattle.redo_book.specs.Book.{Record, record_at}
 use Rattle.redo_build.specs.Rules.{Rules}
 use Rattle.redo_dir.specs.Stored.{Finishes, Journals, Step, put_of, puts_in}
-use Rattle.redo_reads.specs.Reads.{AgreeOn, AreNamedAlike, HasBook, HasReads, IsCovered}
+use Rattle.redo_reads.specs.Reads.{AgreeOn, AreNamedAlike, Covers, HasChecked, HasReads, IsCovered, changed_in}
 use Rattle.redo_reads.proofs.PastLemmas.{without_agrees, without_alike}
 use Rattle.redo_reads.proofs.ReportLemmas.{agreed_file}
 use Rattle.redo_reads.proofs.SearchLemmas.{file_alike}
@@ -60,7 +61,7 @@ same_exit r s limit bound request one two exit is also rows ends =
 abbrev Rests : Type 0
 Rests = (one two : Tree) (request : List (List ℕ)) (limits : LimitsView) (given : GivenView) (paths : List ℕ → Bool)
     (result : Report) → IsTree one → IsTree two → IsGiven one request limits given → AreNamedAlike one two →
-    AgreeOn paths one two → HasBook paths one given.past.book → IsResult given result →
+    AgreeOn paths one two → HasChecked paths one given.past.book result → IsResult given result →
     IsCovered paths given.past.sources result → IsResultOn two request limits result
 
 abbrev Sound : Type 0
@@ -106,12 +107,20 @@ module _ (rests : Rests) (sound : Sound) (stays : StaysTree) (one two : Tree) (p
       subst (λ (rows : List Row). All (λ row. HasReads paths built.given.past.sources (arc_value row.deps)) rows)
       (sym built.parts.rows) has.has_rows
 
+  whole_checked : HasChecked paths (to_build options one) built.given.past.book built.whole
+  whole_checked = record {
+    targets = has.has_book.targets;
+    rows = subst (λ (rows : List Row). All (λ row. (x : Record) → record_at built.given.past.book row.path ≡ Some x →
+        Covers paths (to_build options one) (flat_map changed_in x.entries)) rows)
+        (sym built.parts.rows) has.has_book.rows;
+  }
+
   there : IsResultOn (to_build options two) (request_in options) options.limits built.whole
   there =
       rests (to_build options one) (to_build options two) (request_in options) options.limits built.given paths
       built.whole (to_build_tree stays options one is_one) is_other built.is_given
       (to_build_alike one two paths options is_one is_two alike agree)
-      (to_build_agree one two paths options is_one is_two alike agree) has.has_book built.is whole_covered
+      (to_build_agree one two paths options is_one is_two alike agree) whole_checked built.is whole_covered
 
   -- the reports, without a book, of what was asked for
   report_here : IsReport (rules_for built.given) (request_in options) built.given.limits.targets built.is.report

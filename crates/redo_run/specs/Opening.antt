@@ -10,8 +10,8 @@ use Rattle.redo_dir.specs.Loaded.{IsLoaded, Leads, Looks, ReadIf, Reads}
 use Rattle.redo_dir.specs.declared.clearing.Left.{Left}
 use Rattle.redo_mend.specs.Mended.{MendsTo, book_to_put, own_files}
 use Rattle.redo_past.specs.Past.{IsPast, PastView, RefusesBook}
-use Rattle.redo_reads.specs.Reads.{AgreeOn, AreNamedAlike, HasBook, named_in}
-use Rattle.redo_run.specs.Directories.{IsFileOrNone, IsUnreadable}
+use Rattle.redo_reads.specs.Reads.{AgreeOn, AreNamedAlike, ArePastsAlike, HasBook, named_in}
+use Rattle.redo_run.specs.Directories.{AreFilesOrNone, IsUnreadable}
 use Rattle.redo_run.specs.Reading.{MendsAlike}
 use Rattle.redo_run.specs.declared.opening.Opened.{Opened}
 use Rattle.redo_run.specs.declared.dir_fault.RunDirFault.{RunDirFault}
@@ -35,18 +35,18 @@ pub record IsOpenedOf (loaded : Tree) (passed : ℕ) (opened : Opened) : Type 0 
   pub over : opened.over ≡ is_some (file_at loaded book_path)
   pub counted : opened.passed ≡ passed
 
--- two pasts have one book, and the same file, or none, at its place and at each path that it names
-pub record HaveSameBook (past other : PastView) : Type 0 where
-  pub book : other.book ≡ past.book
-  pub files : (p : List ℕ) → IsAmong (named_in past.book) p → file_at other.tree p ≡ file_at past.tree p
+-- where the book of a past names a path, another past's tree has the same file, or none, too
+abbrev pub HasSameFiles : PastView → PastView → Type 0
+HasSameFiles past other = (p : List ℕ) → IsAmong (named_in past.book) p → file_at other.tree p ≡ file_at past.tree p
 
 -- What the files at these paths decide, whatever is in the others: each tree with the same names that agrees on them is
--- mended as this one is, has a past with the same book, and the same is left in it of a broken-off run.
+-- mended as this one is, has a past that is alike, with the same files where the book names them, and the same is left in
+-- it of a broken-off run.
 abbrev pub DecidesOpened : (List ℕ → Bool) → Tree → Opened → Type 0
 DecidesOpened paths loaded opened =
     (tree : Tree) → IsTree tree → AreNamedAlike loaded tree → AgreeOn paths loaded tree →
-    (other : PastView) × IsPast other × MendsAlike paths opened.past.tree tree other.tree ×
-    HaveSameBook opened.past other × HasLeft tree other.tree opened.left
+    (other : PastView) × MendsAlike paths opened.past.tree tree other.tree × ArePastsAlike opened.past other ×
+    HasSameFiles opened.past other × HasLeft tree other.tree opened.left
 
 -- A tree was loaded with the files at some paths, and each other one empty, and this was opened of it. What was read has
 -- the book and what it names, and decides what is opened.
@@ -54,8 +54,7 @@ pub record IsOpened (lists : List ℕ → List (Option (List ℕ)) → Type 0) (
   pub paths : List ℕ → Bool
   pub loaded : Tree
   pub is_loaded : IsLoaded lists (Leads looks (ReadIf paths reads)) loaded opened.passed
-  pub book : IsFileOrNone refuses loaded book_path
-  pub journal : IsFileOrNone refuses loaded journal_path
+  pub own : AreFilesOrNone refuses loaded
   pub is : IsOpenedOf loaded opened.passed opened
   pub has_book : HasBook paths opened.past.tree opened.past.book
   pub decides : DecidesOpened paths loaded opened

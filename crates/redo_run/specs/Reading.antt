@@ -4,7 +4,7 @@ use Rattle.redo_book.specs.Book.{IsText, Record, targets_of}
 use Rattle.redo_mend.specs.Mended.{MendsTo}
 use Rattle.redo_past.specs.Past.{IsBookOf}
 use Rattle.redo_record.specs.Paths.{IsAmong}
-use Rattle.redo_reads.specs.Reads.{AgreeOn, AreNamedAlike, HasBook, IsCovered}
+use Rattle.redo_reads.specs.Reads.{AgreeOn, AreNamedAlike, Covers, HasChecked, IsCovered}
 use Rattle.redo_report.specs.declared.report.Report.{Report}
 use Rattle.redo_tree.specs.Tree.{IsTree, Tree, file_at}
 use Rattle.redo_which.specs.Candidates.{book_path, journal_path}
@@ -12,10 +12,6 @@ use Rattle.redo_which.specs.Rule.{is_file}
 use Rattle.redo_run.specs.Directories.{IsBuilt, to_build}
 use Rattle.redo_run.specs.declared.exit.Exit.{Exit}
 use Rattle.redo_run.specs.declared.options.Options.{Options}
-
--- these paths have each file of the tree at one of those
-abbrev pub Covers : (List ℕ → Bool) → Tree → List (List ℕ) → Type 0
-Covers paths tree those = (p : List ℕ) → IsAmong those p → is_file tree p ≡ true → paths p ≡ true
 
 -- These paths have what mending a tree looks into whose journal has this text: the journal and the book, and the files at
 -- the targets of both. A text that is no book's has no targets.
@@ -42,10 +38,11 @@ HasPlaces paths tree report =
     (p : List ℕ) → ((p ≡ book_path) ⊎ IsAmong (map (λ f. f.0) report.files.items) p) → is_file tree p ≡ true →
     paths p ≡ true
 
--- these paths have all files that a run looks into which builds the tree so: the book and what it names, the .do file of
--- each row and the sources that its script declared, and what stands where it stores
+-- these paths have all files that a run looks into which builds the tree so: the book with the files at its targets; of
+-- each row, what the record of its target names, the .do file and the sources that its script declared; and what stands
+-- where it stores
 pub record HasRead (paths : List ℕ → Bool) (tree : Tree) (options : Options) (report : Report) (book : List ℕ) (exit : Exit) : Type 0 where
   pub built : IsBuilt (to_build options tree) options report book exit
-  pub has_book : HasBook paths (to_build options tree) built.given.past.book
+  pub has_book : HasChecked paths (to_build options tree) built.given.past.book report
   pub has_rows : IsCovered paths built.given.past.sources report
   pub has_places : HasPlaces paths tree report

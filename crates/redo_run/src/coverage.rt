@@ -2,14 +2,14 @@
 
 ghost use Rattle.std.specs.Arc.{arc_value};
 ghost use Rattle.std.specs.List.{AllByRecursion};
-ghost use Rattle.std.specs.Prelude.{◌≡◌, ◌∷◌, [], IfOk, List, flat_map, map, true};
-ghost use Rattle.redo_book.specs.Book.{Record, record_of, targets_of};
+ghost use Rattle.std.specs.Prelude.{◌≡◌, ◌∷◌, [], IfOk, List, Some, flat_map, map, true};
+ghost use Rattle.redo_book.specs.Book.{Record, record_at, record_of, targets_of};
 ghost use Rattle.redo_dir.specs.Loaded.{wants};
 ghost use Rattle.redo_past.specs.Past.{IsBookOf};
-ghost use Rattle.redo_reads.specs.Reads.{HasReads, changed_in, named_by};
+ghost use Rattle.redo_reads.specs.Reads.{Covers, HasReads, changed_in, named_by};
 ghost use Rattle.redo_record.specs.Entries.{same_kind};
 ghost use Rattle.redo_record.specs.declared.deps.DepKind.TheVariants.{Change};
-ghost use Rattle.redo_run.specs.Reading.{Covers, HasMended};
+ghost use Rattle.redo_run.specs.Reading.{HasMended};
 ghost use Rattle.redo_run.specs.inside.Foreseen.{IsCoveredBy};
 ghost use Rattle.redo_tree.specs.Tree.{file_at};
 ghost use Rattle.redo_which.specs.Rule.{is_file};
@@ -17,7 +17,7 @@ ghost use Rattle.redo_which.specs.Rule.{is_file};
 use crate::foreseen::Foreseen;
 use redo_book::{Book, BookEntry, BookFault, BookRecord, read_book};
 use redo_dir::{Wanted, journal_path};
-use redo_past::book_path;
+use redo_past::{Past, book_path};
 use redo_path::Path;
 use redo_record::{Dep, DepKind};
 use redo_report::Row;
@@ -126,11 +126,61 @@ fn places_are_read(tree: &Tree, wanted: &Wanted, files: &[(Path, Content)]) -> b
     true
 }
 
+/// Whether the files at the targets of these records were read.
+fn targets_are_read(tree: &Tree, wanted: &Wanted, records: &[BookRecord]) -> bool
+    ensures { result ≡ true → Covers (wants wanted.now) tree.now (flat_map (λ r. r.target ∷ []) records.now) }
+{
+    for record in records {
+        if !is_read(tree, wanted, &record.target) {
+            return false;
+        }
+    }
+    true
+}
+
+/// Whether the files at the targets of a book were read.
+fn book_targets_are_read(tree: &Tree, wanted: &Wanted, book: &Book) -> bool
+    ensures { result ≡ true → Covers (wants wanted.now) tree.now (targets_of book.now) }
+{
+    targets_are_read(tree, wanted, book.records())
+}
+
+/// Whether the book of a tree, at this path, and the files at its targets were read.
+fn kept_are_read(tree: &Tree, wanted: &Wanted, book: &Book, place: &Path) -> bool
+    ensures { result ≡ true → Covers (wants wanted.now) tree.now (place.now ∷ targets_of book.now) }
+{
+    is_read(tree, wanted, place) && book_targets_are_read(tree, wanted, book)
+}
+
 /// Whether the book of a tree, at this path, and the paths that it names were read.
 pub(crate) fn book_is_read(tree: &Tree, wanted: &Wanted, book: &Book, place: &Path) -> bool
     ensures { result ≡ true → Covers (wants wanted.now) tree.now (place.now ∷ flat_map named_by book.now) }
 {
     is_read(tree, wanted, place) && records_are_read(tree, wanted, book.records())
+}
+
+/// Whether the paths were read that the record of a row's target names, if the book has one.
+fn row_is_checked(past: &Past, wanted: &Wanted, row: &Row) -> bool
+    ensures { result ≡ true → (r : Record) → record_at past.now.book row.now.path ≡ Some r →
+        Covers (wants wanted.now) past.now.tree (flat_map changed_in r.entries) }
+{
+    match past.book().find(&row.path) {
+        Some(made) => entries_are_read(past.tree(), wanted, &made.entries),
+        None => true,
+    }
+}
+
+/// Whether the paths were read that the records of these rows' targets name.
+fn rows_are_checked(past: &Past, wanted: &Wanted, rows: &[Row]) -> bool
+    ensures { result ≡ true → AllByRecursion (λ row. (r : Record) → record_at past.now.book row.path ≡ Some r →
+        Covers (wants wanted.now) past.now.tree (flat_map changed_in r.entries)) rows.now }
+{
+    for row in rows {
+        if !row_is_checked(past, wanted, row) {
+            return false;
+        }
+    }
+    true
 }
 
 /// Whether what stands in the book's place, which is this path, and where these files are to be stored was read.
@@ -150,32 +200,16 @@ pub(crate) fn is_covered(
 {
     let (past, report) = (&foreseen.run.past, &foreseen.run.report);
     let place = book_path(alloc)?;
-    if !book_is_read(past.tree(), wanted, past.book(), &place) {
+    if !kept_are_read(past.tree(), wanted, past.book(), &place) {
+        return Ok(false);
+    }
+    if !rows_are_checked(past, wanted, &report.rows) {
         return Ok(false);
     }
     if !stored_are_read(&foreseen.mended, wanted, &report.files, &place) {
         return Ok(false);
     }
     rows_are_read(alloc, past.sources(), wanted, &report.rows)
-}
-
-/// Whether the files at the targets of these records were read.
-fn targets_are_read(tree: &Tree, wanted: &Wanted, records: &[BookRecord]) -> bool
-    ensures { result ≡ true → Covers (wants wanted.now) tree.now (flat_map (λ r. r.target ∷ []) records.now) }
-{
-    for record in records {
-        if !is_read(tree, wanted, &record.target) {
-            return false;
-        }
-    }
-    true
-}
-
-/// Whether the files at the targets of a book were read.
-fn book_targets_are_read(tree: &Tree, wanted: &Wanted, book: &Book) -> bool
-    ensures { result ≡ true → Covers (wants wanted.now) tree.now (targets_of book.now) }
-{
-    targets_are_read(tree, wanted, book.records())
 }
 
 /// Whether the file at a path was read, and those at the targets of the book that it has the text of. A text that is no

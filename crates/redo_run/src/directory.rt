@@ -3,7 +3,7 @@
 ghost use Rattle.std.specs.Prelude.{◌≡◌, ◌↔◌, ◌≤◌, ◌+◌, false, IfErr, IfOk, IfSome, IsErrOf, true};
 ghost use Rattle.redo_core.specs.Permits.{IsUnused};
 ghost use Rattle.redo_dir.specs.Loaded.{AreNamesIn, IsLoaded, Leads, ReadIf, wants};
-ghost use Rattle.redo_run.specs.Directories.{AllowsRounds, FallsInList, FallsInPreview, IsFaultOf, IsUnread, IsUnwritten};
+ghost use Rattle.redo_run.specs.Directories.{AllowsRounds, AreFilesOrNone, FallsInList, FallsInPreview, IsFaultOf, IsUnread, IsUnwritten};
 ghost use Rattle.redo_run.specs.Directories.{ListsTree, PreviewsTree, ReportsTree};
 ghost use Rattle.redo_run.specs.Reading.{HasMended};
 ghost use Rattle.redo_run.specs.inside.Foreseen.{IsDecided, IsLoadedAnd, IsUnforeseen, IsUnloadedOr};
@@ -13,8 +13,9 @@ use crate::coverage::{is_covered, is_mending_read};
 use crate::foreseen::{Foreseen, foresee_over};
 use crate::laws::runs_rest_on_what_they_read;
 use crate::loading::{Lent, list, load_unread, load_wanted};
+use crate::request::requested;
 use crate::storing::carry_out;
-use crate::wanting::{want_less, want_mended, want_more, wanted_by_name, wanted_first};
+use crate::wanting::{want_less, want_mended, want_more, wanted_first, wanted_for};
 use crate::{Cause, Exit, Host, Observer, Options, RunDirFault};
 use redo_bundle::{ByteOut, write_all};
 use redo_dir::{Names, Reading, Wanted, WorkDir};
@@ -73,7 +74,7 @@ where
     ensures names { AreNamesIn (D.lists dir.now) (D.looks dir.now) round.new.names }
     ensures wanted { round.new.wanted ≡ round.old.wanted }
     ensures foreseen { IfOk result (IsLoadedAnd (D.lists dir.now) (D.looks dir.now)
-        (ReadIf (wants round.old.wanted) (D.reads dir.now)) options.now) }
+        (ReadIf (wants round.old.wanted) (D.reads dir.now)) (D.refuses dir.now) options.now) }
     ensures fault { IfErr result (IsUnloadedOr (D.lists dir.now) (D.looks dir.now)
         (wants round.old.wanted) (D.reads dir.now) (D.refuses dir.now) options.now) }
 {
@@ -104,6 +105,7 @@ where
     ensures names { AreNamesIn (D.lists dir.now) (D.looks dir.now) round.new.names }
     ensures loaded { IfOk result (λ found. IfSome found (λ tree. IsLoaded (D.lists dir.now)
         (Leads (D.looks dir.now) (ReadIf (wants round.new.wanted) (D.reads dir.now))) tree round.new.names.passed)) }
+    ensures own { IfOk result (λ found. IfSome found (AreFilesOrNone (D.refuses dir.now))) }
     ensures mended { IfOk result (λ found. IfSome found (HasMended (wants round.new.wanted))) }
     ensures unread { IfErr result (IsUnread (D.lists dir.now) (D.looks dir.now) (D.reads dir.now) (D.refuses dir.now)) }
 {
@@ -155,7 +157,7 @@ where
     ensures opened { host.old.permit ≤ host.new.permit + 1 }
     ensures names { AreNamesIn (D.lists dir.now) (D.looks dir.now) round.new.names }
     ensures decided { IfOk result (λ found. IfSome found
-        (IsDecided (D.lists dir.now) (D.looks dir.now) (D.reads dir.now) options.now)) }
+        (IsDecided (D.lists dir.now) (D.looks dir.now) (D.reads dir.now) (D.refuses dir.now) options.now)) }
     ensures unread { IfErr result (IsUnread (D.lists dir.now) (D.looks dir.now) (D.reads dir.now) (D.refuses dir.now)) }
 {
     runs_rest_on_what_they_read();
@@ -197,7 +199,7 @@ where
     requires names { AreNamesIn (D.lists dir.now) (D.looks dir.now) round.old.names }
     ensures opened { host.old.permit ≤ host.new.permit + 1 }
     ensures names { AreNamesIn (D.lists dir.now) (D.looks dir.now) round.new.names }
-    ensures decided { IfOk result (IsDecided (D.lists dir.now) (D.looks dir.now) (D.reads dir.now) options.now) }
+    ensures decided { IfOk result (IsDecided (D.lists dir.now) (D.looks dir.now) (D.reads dir.now) (D.refuses dir.now) options.now) }
     ensures fault { IfErr result (IsUnforeseen (D.lists dir.now) (D.looks dir.now) (D.reads dir.now) (D.refuses dir.now) options.now) }
 {
     round.wanted.all = true;
@@ -216,7 +218,7 @@ where
     D::Draft: Send,
     requires permit { 15 ≤ host.old.permit }
     requires names { AreNamesIn (D.lists dir.now) (D.looks dir.now) round.old.names }
-    ensures decided { IfOk result (IsDecided (D.lists dir.now) (D.looks dir.now) (D.reads dir.now) options.now) }
+    ensures decided { IfOk result (IsDecided (D.lists dir.now) (D.looks dir.now) (D.reads dir.now) (D.refuses dir.now) options.now) }
     ensures fault { IfErr result (IsUnforeseen (D.lists dir.now) (D.looks dir.now) (D.reads dir.now) (D.refuses dir.now) options.now) }
 {
     for _part in 0..PARTS {
@@ -241,11 +243,12 @@ fn foresee<H: Threads + Wait + Sync, D: WorkDir + Sync, O: Observer>(
 where
     D::Draft: Send,
     requires permit { AllowsRounds host.old.permit }
-    ensures decided { IfOk result (IsDecided (D.lists dir.now) (D.looks dir.now) (D.reads dir.now) options.now) }
+    ensures decided { IfOk result (IsDecided (D.lists dir.now) (D.looks dir.now) (D.reads dir.now) (D.refuses dir.now) options.now) }
     ensures fault { IfErr result (IsUnforeseen (D.lists dir.now) (D.looks dir.now) (D.reads dir.now) (D.refuses dir.now) options.now) }
 {
     let names = list(host.rt, host.alloc(), dir, options.workers, cause)?;
-    let wanted = wanted_first(host.alloc(), dir, &names)?;
+    let request = requested(host.alloc(), &options.targets)?;
+    let wanted = wanted_first(host.alloc(), dir, &names, &request)?;
     let mut round = Round {
         names,
         wanted,
@@ -257,7 +260,7 @@ where
             Err(RunDirFault::Load) => cause.forget(),
             Err(fault) => return Err(fault),
         }
-        round.wanted = wanted_by_name(host.alloc(), dir, &round.names)?;
+        round.wanted = wanted_for(host.alloc(), dir, &round.names, &request)?;
     }
     foresee_part(host, dir, &mut round, options, cause)
 }
@@ -293,8 +296,8 @@ where
     D::Draft: Send,
     requires permit { AllowsRounds host.old.permit }
     requires writer { W.has_failed writer.old ≡ false }
-    ensures report { IfOk result (ReportsTree (D.lists dir.old) (D.looks dir.old) (D.reads dir.old) options.now
-        (D.done dir.old) (D.done dir.new) (W.held writer.old) (W.held writer.new)) }
+    ensures report { IfOk result (ReportsTree (D.lists dir.old) (D.looks dir.old) (D.reads dir.old) (D.refuses dir.old)
+        options.now (D.done dir.old) (D.done dir.new) (W.held writer.old) (W.held writer.new)) }
     ensures fault { IfErr result (IsFaultOf (D.lists dir.old) (D.looks dir.old) (D.reads dir.old) (D.refuses dir.old)
         (λ path kind. (d : D) × D.refuses d path kind) options.now (D.done dir.old) (D.done dir.new)) }
     ensures untouched { IsUnwritten result writer.old writer.new }
@@ -318,8 +321,8 @@ where
     D::Draft: Send,
     requires permit { AllowsRounds host.old.permit }
     requires writer { W.has_failed writer.old ≡ false }
-    ensures report { IfOk result (PreviewsTree (D.lists dir.now) (D.looks dir.now) (D.reads dir.now) options.now
-        (W.held writer.old) (W.held writer.new)) }
+    ensures report { IfOk result (PreviewsTree (D.lists dir.now) (D.looks dir.now) (D.reads dir.now) (D.refuses dir.now)
+        options.now (W.held writer.old) (W.held writer.new)) }
     ensures fault { IfErr result
         (FallsInPreview (D.lists dir.now) (D.looks dir.now) (D.reads dir.now) (D.refuses dir.now) options.now) }
     ensures untouched { IsUnwritten result writer.old writer.new }

@@ -2,9 +2,8 @@
 
 ghost use Rattle.std.specs.Prelude.{◌≡◌, IfErr, IfOk};
 ghost use Rattle.redo_dir.specs.Loaded.{AreNamesIn, HasNames, IsLoaded, IsRefusedBy, Leads, ReadIf, Unread, wants};
-ghost use Rattle.redo_which.specs.Candidates.{book_path as path_of_book, journal_path as path_of_journal};
 ghost use Rattle.redo_run.specs.DirFaults.{of_load};
-ghost use Rattle.redo_run.specs.Directories.{IsBlocked, IsFileOrNone, IsUnread};
+ghost use Rattle.redo_run.specs.Directories.{AreFilesOrNone, IsBlocked, IsFileOrNone, IsUnread};
 ghost use Rattle.redo_run.specs.inside.Loading.{HasNoOwnPlace, HasNoPlace};
 
 use crate::{Cause, RunDirFault, Said};
@@ -120,8 +119,7 @@ fn check_places<D: WorkDir>(
     tree: &Tree,
     cause: &mut Cause,
 ) -> Result<(), RunDirFault>
-    ensures book { IfOk result (λ _. IsFileOrNone (D.refuses dir.now) tree.now path_of_book) }
-    ensures journal { IfOk result (λ _. IsFileOrNone (D.refuses dir.now) tree.now path_of_journal) }
+    ensures own { IfOk result (λ _. AreFilesOrNone (D.refuses dir.now) tree.now) }
     ensures refused { IfErr result (HasNoOwnPlace (D.looks dir.now) (D.refuses dir.now) tree.now) }
 {
     let book = FilePlace {
@@ -178,8 +176,7 @@ where
     ensures passed { names.new.passed ≡ names.old.passed }
     ensures loaded { IfOk result (λ tree. IsLoaded (D.lists dir.now)
         (Leads (D.looks dir.now) (ReadIf (wants reading.entry.wanted.now) (D.reads dir.now))) tree names.old.passed) }
-    ensures book { IfOk result (λ tree. IsFileOrNone (D.refuses dir.now) tree path_of_book) }
-    ensures journal { IfOk result (λ tree. IsFileOrNone (D.refuses dir.now) tree path_of_journal) }
+    ensures own { IfOk result (AreFilesOrNone (D.refuses dir.now)) }
     ensures unread { IfErr result (IsUnread (D.lists dir.now) (D.looks dir.now) (D.reads dir.now) (D.refuses dir.now)) }
 {
     match names.load(lent.rt, dir, lent.alloc, reading) {

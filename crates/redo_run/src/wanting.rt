@@ -2,7 +2,7 @@
 //! promised of them, as a run holds whichever it reads.
 
 use crate::foreseen::Foreseen;
-use redo_book::{Book, BookEntry, read_book};
+use redo_book::{Book, BookEntry, BookRecord, read_book};
 use redo_dir::{Names, Place, Wanted, WorkDir, journal_path};
 use redo_names::PathSet;
 use redo_past::book_path;
@@ -29,58 +29,107 @@ fn book_at<D: WorkDir>(alloc: Global, dir: &D, place: &Place) -> Option<Book> {
     read_book(alloc, &text).ok()
 }
 
-/// Adds the paths that a book names.
-fn add_named(paths: &mut PathSet, book: &Book) -> Result<(), AllocError> {
+/// Adds the targets of a book.
+fn add_targets(paths: &mut PathSet, book: &Book) -> Result<(), AllocError> {
     for record in book.records() {
         paths.insert(record.target.clone()?)?;
-        for entry in &record.entries {
-            if let BookEntry::Change(_, path) = entry {
-                paths.insert(path.clone()?)?;
-            }
+    }
+    Ok(())
+}
+
+/// Adds the paths that a record has under `change`.
+fn add_entries(paths: &mut PathSet, record: &BookRecord) -> Result<(), AllocError> {
+    for entry in &record.entries {
+        if let BookEntry::Change(_, path) = entry {
+            paths.insert(path.clone()?)?;
         }
     }
     Ok(())
 }
 
-/// Adds the file at a place that is to have the text of a book, and what that names.
-fn add_book<D: WorkDir>(
-    alloc: Global,
-    dir: &D,
-    paths: &mut PathSet,
-    place: &Place,
-) -> Result<(), AllocError> {
-    paths.insert(place.path.clone()?)?;
-    if let Some(book) = book_at(alloc, dir, place) {
-        add_named(paths, &book)?;
+/// Adds the paths that a book names.
+fn add_named(paths: &mut PathSet, book: &Book) -> Result<(), AllocError> {
+    add_targets(paths, book)?;
+    for record in book.records() {
+        add_entries(paths, record)?;
     }
     Ok(())
 }
 
-/// The files to read where nothing is built: the book and the journal, and what both name. A journal that is
-/// recovered makes a book, so this is wanted then even if it isn't there.
+/// Adds the paths that the record of a target has under `change`, if a book has one.
+fn add_entries_of(paths: &mut PathSet, book: &Book, target: &Path) -> Result<(), AllocError> {
+    match book.find(target) {
+        Some(record) => add_entries(paths, record),
+        None => Ok(()),
+    }
+}
+
+/// What these paths rest on by a book: what their records name, what the records of those name, and so on.
+fn rested_on(alloc: Global, book: &Book, paths: &[Path]) -> Result<PathSet, AllocError> {
+    let mut found = PathSet::new(alloc);
+    for path in paths {
+        add_entries_of(&mut found, book, path)?;
+    }
+    for at in 0..usize::MAX {
+        if at >= found.len() {
+            return Ok(found);
+        }
+        let next = found.at(at).clone()?;
+        add_entries_of(&mut found, book, &next)?;
+    }
+    Ok(found)
+}
+
+/// The books that the files in the places of the book and of the journal have the text of.
+fn books_in<D: WorkDir>(alloc: Global, dir: &D, names: &Names) -> Result<Vec<Book>, AllocError> {
+    let mut books = Vec::new(alloc);
+    for place in &names.found {
+        let path = place.path.text();
+        if path == BOOK || path == JOURNAL {
+            if let Some(book) = book_at(alloc, dir, place) {
+                books.push(book)?;
+            }
+        }
+    }
+    Ok(books)
+}
+
+/// The book and the journal, whether they are there or not: a journal that is recovered makes a book.
+fn wanted_own(alloc: Global) -> Result<Wanted, AllocError> {
+    let mut paths = PathSet::new(alloc);
+    paths.insert(book_path(alloc)?)?;
+    paths.insert(journal_path(alloc)?)?;
+    Ok(Wanted { all: false, paths })
+}
+
+/// The files to read where nothing is built: the book and the journal, and what both name.
 pub(crate) fn wanted_by_books<D: WorkDir>(
     alloc: Global,
     dir: &D,
     names: &Names,
 ) -> Result<Wanted, AllocError> {
-    let mut paths = PathSet::new(alloc);
-    for place in &names.found {
-        let path = place.path.text();
-        if path == BOOK || path == JOURNAL {
-            add_book(alloc, dir, &mut paths, place)?;
-            paths.insert(book_path(alloc)?)?;
-        }
+    let mut wanted = wanted_own(alloc)?;
+    for book in &books_in(alloc, dir, names)? {
+        add_named(&mut wanted.paths, book)?;
     }
-    Ok(Wanted { all: false, paths })
+    Ok(wanted)
 }
 
-/// The files to read where not all are: these, and the scripts.
-pub(crate) fn wanted_by_name<D: WorkDir>(
+/// The files to read for a build of these paths where not all are: the scripts, the book and the journal with the files at
+/// the targets of both, and what the paths rest on by them.
+pub(crate) fn wanted_for<D: WorkDir>(
     alloc: Global,
     dir: &D,
     names: &Names,
+    request: &[Path],
 ) -> Result<Wanted, AllocError> {
-    let mut wanted = wanted_by_books(alloc, dir, names)?;
+    let mut wanted = wanted_own(alloc)?;
+    for book in &books_in(alloc, dir, names)? {
+        add_targets(&mut wanted.paths, book)?;
+        for path in rested_on(alloc, book, request)?.into_paths() {
+            wanted.paths.insert(path)?;
+        }
+    }
     for place in &names.found {
         if place.path.text().ends_with(b".do") {
             wanted.paths.insert(place.path.clone()?)?;
@@ -89,7 +138,7 @@ pub(crate) fn wanted_by_name<D: WorkDir>(
     Ok(wanted)
 }
 
-/// Adds the file at a path, and what the book names that it has the text of in a tree.
+/// Adds the file at a path, and the targets of the book that it has the text of in a tree.
 fn want_said(
     alloc: Global,
     wanted: &mut Wanted,
@@ -98,7 +147,7 @@ fn want_said(
 ) -> Result<(), AllocError> {
     if let Some(text) = tree.content(&path) {
         if let Ok(book) = read_book(alloc, text.bytes()) {
-            add_named(&mut wanted.paths, &book)?;
+            add_targets(&mut wanted.paths, &book)?;
         }
     }
     wanted.paths.insert(path)?;
@@ -126,20 +175,21 @@ fn newly_refused(
     Ok(unread)
 }
 
-/// The files to read first: all, where they have few bytes.
+/// The files to read first for a build of these paths: all, where they have few bytes.
 pub(crate) fn wanted_first<D: WorkDir>(
     alloc: Global,
     dir: &D,
     names: &Names,
+    request: &[Path],
 ) -> Result<Wanted, AllocError> {
     if bytes_of(&names.found) <= FEW_BYTES {
         let paths = PathSet::new(alloc);
         return Ok(Wanted { all: true, paths });
     }
-    wanted_by_name(alloc, dir, names)
+    wanted_for(alloc, dir, names, request)
 }
 
-/// Adds what mending a tree looks into: the journal and the book, and what both name.
+/// Adds what mending a tree looks into: the journal and the book, and the targets of both.
 pub(crate) fn want_mended(
     alloc: Global,
     wanted: &mut Wanted,
@@ -180,13 +230,15 @@ pub(crate) fn want_more(
     wanted: &mut Wanted,
     foreseen: &Foreseen,
 ) -> Result<(), AllocError> {
-    add_named(&mut wanted.paths, foreseen.run.past.book())?;
-    for row in &foreseen.run.report.rows {
+    let (book, report) = (foreseen.run.past.book(), &foreseen.run.report);
+    add_targets(&mut wanted.paths, book)?;
+    for row in &report.rows {
+        add_entries_of(&mut wanted.paths, book, &row.path)?;
         for dep in row.deps.entries(alloc)? {
             wanted.paths.insert(dep.path)?;
         }
     }
-    for (path, _) in &foreseen.run.report.files {
+    for (path, _) in &report.files {
         wanted.paths.insert(path.clone()?)?;
     }
     Ok(())

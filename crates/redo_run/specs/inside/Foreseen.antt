@@ -5,9 +5,9 @@ use Rattle.std.specs.declared.io.ErrorKind.{ErrorKind}
 use Rattle.redo_tree.specs.Tree.{IsTree, Tree}
 use Rattle.redo_dir.specs.Loaded.{IsLoaded, Leads, Looks, ReadIf, Reads}
 use Rattle.redo_mend.specs.Mended.{MendsTo}
-use Rattle.redo_reads.specs.Reads.{HasBook, IsCovered}
+use Rattle.redo_reads.specs.Reads.{HasChecked, IsCovered}
 use Rattle.redo_rules.specs.Results.{IsOfTree}
-use Rattle.redo_run.specs.Directories.{Decides, IsBuilt, IsUnbuilt, IsUnmended, IsUnread, IsUnreadable, Stays, steps_of, to_build}
+use Rattle.redo_run.specs.Directories.{AreFilesOrNone, Decides, IsBuilt, IsUnbuilt, IsUnmended, IsUnread, IsUnreadable, Stays, steps_of, to_build}
 use Rattle.redo_run.specs.Reading.{HasPlaces}
 use Rattle.redo_run.specs.Storing.{clearing, storing, to_store}
 use Rattle.redo_run.specs.inside.Storing.{steps_left, steps_new}
@@ -32,17 +32,18 @@ abbrev pub IsUnforeseenOver : Options → Tree → RunDirFault → Type 0
 IsUnforeseenOver options loaded fault =
     IsUnmended loaded fault ⊎ ((mended : Tree) × MendsTo loaded mended × IsUnbuilt (to_build options mended) options fault)
 
--- the files at these paths are all that the build looked into: they have the book with what it names, what each row of the
--- report names, and what stands where it is stored
+-- the files at these paths are all that the build looked into: they have the book with the files at its targets and what
+-- it names of the report's, what each row of the report names, and what stands where it is stored
 pub record IsCoveredBy (paths : List ℕ → Bool) (f : Foreseen) : Type 0 where
-  pub book : HasBook paths f.run.past.tree f.run.past.book
+  pub book : HasChecked paths f.run.past.tree f.run.past.book f.run.report
   pub rows : IsCovered paths f.run.past.sources f.run.report
   pub places : HasPlaces paths (arc_value f.mended) f.run.report
 
--- a tree was loaded, and this is foreseen of it
-abbrev pub IsLoadedAnd : (List ℕ → List (Option (List ℕ)) → Type 0) → Looks → Reads → Options → Foreseen → Type 0
-IsLoadedAnd lists looks reads options f =
-    (loaded : Tree) × IsLoaded lists (Leads looks reads) loaded f.run.passed × IsForeseen options loaded f.run.passed f
+-- a tree was loaded, its book and journal are files, and this is foreseen of it
+abbrev pub IsLoadedAnd : (List ℕ → List (Option (List ℕ)) → Type 0) → Looks → Reads → (List ℕ → ErrorKind → Type 0) → Options → Foreseen → Type 0
+IsLoadedAnd lists looks reads refuses options f =
+    (loaded : Tree) × IsLoaded lists (Leads looks reads) loaded f.run.passed × AreFilesOrNone refuses loaded ×
+    IsForeseen options loaded f.run.passed f
 
 -- a tree can't be loaded, or it isn't built
 abbrev pub IsUnloadedOr : (List ℕ → List (Option (List ℕ)) → Type 0) → Looks → (List ℕ → Bool) → Reads → (List ℕ → ErrorKind → Type 0) → Options → RunDirFault → Type 0
@@ -51,10 +52,11 @@ IsUnloadedOr lists looks paths reads refuses options fault =
     ((loaded : Tree) × (passed : ℕ) × IsLoaded lists (Leads looks (ReadIf paths reads)) loaded passed × IsUnforeseenOver options loaded fault)
 
 -- a tree was loaded with some files, and what is foreseen of it is decided by these
-pub record IsDecided (lists : List ℕ → List (Option (List ℕ)) → Type 0) (looks : Looks) (reads : Reads) (options : Options) (f : Foreseen) : Type 0 where
+pub record IsDecided (lists : List ℕ → List (Option (List ℕ)) → Type 0) (looks : Looks) (reads : Reads) (refuses : List ℕ → ErrorKind → Type 0) (options : Options) (f : Foreseen) : Type 0 where
   pub paths : List ℕ → Bool
   pub loaded : Tree
   pub is_loaded : IsLoaded lists (Leads looks (ReadIf paths reads)) loaded f.run.passed
+  pub own : AreFilesOrNone refuses loaded
   pub foreseen : IsForeseen options loaded f.run.passed f
   pub decides : Decides paths options loaded f.run.report f.run.book f.run.exit (steps_of loaded (arc_value f.mended) f.run.report f.run.book)
 

@@ -2,7 +2,7 @@ use Rattle.std.proofs.Common.{◌∙◌, ◌∷◌, [], List, ap, subst, ℕ}
 use Rattle.std.specs.Prelude.{flat_map}
 use Rattle.redo_book.specs.Book.{Record, record_of}
 use Rattle.redo_dir.specs.Loaded.{wants}
-use Rattle.redo_run.specs.Reading.{Covers}
+use Rattle.redo_reads.specs.Reads.{Covers}
 use Rattle.redo_run.proofs.CoverageLemmas.{each-of-map, one-each}
 use Rattle.redo_run.proofs.coverage.book_targets_are_read.Goals as goal
 

@@ -1,8 +1,7 @@
 use Rattle.std.proofs.Common.{take}
 use Rattle.std.specs.Prelude.{flat_map}
 use Rattle.redo_dir.specs.Loaded.{wants}
-use Rattle.redo_reads.specs.Reads.{changed_in}
-use Rattle.redo_run.specs.Reading.{Covers}
+use Rattle.redo_reads.specs.Reads.{Covers, changed_in}
 use Rattle.redo_run.proofs.coverage.entries_are_read.Given as goal
 
 -- the first ones were read

@@ -2,8 +2,7 @@ use Rattle.std.proofs.Common.{take}
 use Rattle.std.specs.Prelude.{flat_map}
 use Rattle.redo_book.specs.Book.{record_of}
 use Rattle.redo_dir.specs.Loaded.{wants}
-use Rattle.redo_reads.specs.Reads.{named_by}
-use Rattle.redo_run.specs.Reading.{Covers}
+use Rattle.redo_reads.specs.Reads.{Covers, named_by}
 use Rattle.redo_run.proofs.coverage.records_are_read.Given as goal
 
 -- the first ones were read

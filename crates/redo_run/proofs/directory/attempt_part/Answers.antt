@@ -1,6 +1,7 @@
 use Rattle.std.proofs.Common.{◌≡◌, rules, subst, true}
 use Rattle.std.specs.Prelude.{IfSome}
 use Rattle.redo_dir.specs.Loaded.{IsLoaded, Leads, ReadIf, wants}
+use Rattle.redo_run.specs.Directories.{AreFilesOrNone}
 use Rattle.redo_run.specs.Reading.{HasMended}
 use Rattle.redo_run.proofs.DirectoryLemmas.{decided_part}
 use Rattle.redo_run.proofs.directory.attempt_part.Goals as goal
@@ -13,8 +14,10 @@ returns-then-branch-clause-decided g c =
     let paths = wants round.wanted in let passed = round.names.passed in
     let loaded = subst (λ o. IfSome o (λ tree. IsLoaded lists (Leads looks (ReadIf paths reads)) tree passed))
     c.in-Some.is c.in_ok-tree.ensures.loaded in
+    let refuses = g.D.WorkDir.refuses dir in
+    let own = subst (λ o. IfSome o (AreFilesOrNone refuses)) c.in-Some.is c.in_ok-tree.ensures.own in
     let mended = subst (λ o. IfSome o (HasMended paths)) c.in-Some.is c.in_ok-tree.ensures.mended in
     let all : c.in_ok-is_covered-in-Ok.field-0 ≡ true = search rules in
     decided_part c.runs_rest_on_what_they_read.ensures.mended c.runs_rest_on_what_they_read.ensures.built
-    c.runs_rest_on_what_they_read.ensures.steps c.a_tree_has_one_past.ensures lists looks reads c.args.options.now f
-    paths c.in-Some.tree passed (c.in_ok-is_covered-in-Ok.ensures all) mended loaded c.in-Ok.ensures.foreseen
+    c.runs_rest_on_what_they_read.ensures.steps c.a_tree_has_one_past.ensures lists looks reads refuses c.args.options.now f
+    paths c.in-Some.tree passed (c.in_ok-is_covered-in-Ok.ensures all) mended loaded own c.in-Ok.ensures.foreseen

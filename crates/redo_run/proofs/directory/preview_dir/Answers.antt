@@ -21,6 +21,7 @@ returns-in_err-write_report-clause-fault g c =
       loaded = decided.loaded;
       passed = run.passed;
       is_loaded = decided.is_loaded;
+      own = decided.own;
       mended = arc_value c.in_ok-preview.field-0.mended;
       mends = decided.foreseen.mends;
       report = run.report;
