@@ -1,3 +1,4 @@
 pub mod AskedLemmas
+pub mod LawLemmas
 pub mod NoteLemmas
 pub mod TextLemmas

@@ -5,12 +5,14 @@
 //! all sources that have a rule, without a build, and [`shadowed_within`] those below some places.
 //!
 //! - `kinds`: the three kinds; `asked`: which paths a build has asked for; `finding`: what is found of each kind;
-//! - `text`: the lines.
+//! - `text`: the lines;
+//! - [`laws`]: what notes depend on.
 #![tactic(auto)]
 
 mod asked;
 mod finding;
 mod kinds;
+pub mod laws;
 mod text;
 
 pub use finding::{notes, shadowed, shadowed_within};

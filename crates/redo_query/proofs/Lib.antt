@@ -1,4 +1,5 @@
 pub mod AnyLemmas
+pub mod LawLemmas
 pub mod NearLemmas
 pub mod NeedLemmas
 pub mod PlaceLemmas

@@ -6,11 +6,13 @@
 //! - `answers`: questions and answers; `text`: their lines;
 //! - `standing`: targets that stand, and the sources that they depend on; `named`: which paths a record names;
 //! - `users`: who names a path; `needing`: who needs it, to the end; `index`: a hint that keeps this quick;
-//! - `nearest`: the nearest name.
+//! - `nearest`: the nearest name;
+//! - [`laws`]: what an answer depends on.
 #![tactic(auto)]
 
 mod answers;
 mod index;
+pub mod laws;
 mod named;
 mod nearest;
 mod needing;
