@@ -65,7 +65,7 @@ pub trait Calls {
 
     // These calls were made, in this order.
     ghost after: { Self → List Call → Type 0 };
-    // A place was looked at, and this was the answer.
+    // A place was looked at, and this was the answer, or the kind of its error.
     ghost stands: { Self → List ℕ → Found → Type 0 };
     // A file was opened, and these are its bytes, where they are known.
     ghost opens: { Self → List ℕ → Option (List ℕ) → Type 0 };
@@ -78,7 +78,7 @@ pub trait Calls {
 
     /// Looks at a place, and follows no link there.
     fn look(&self, place: &PathBuf) -> io::Result<Metadata>
-        ensures { IfOk result (λ about. stands self.now (path_buf_bytes place.now) (Ok about)) };
+        ensures { stands self.now (path_buf_bytes place.now) (found_of error_kind result) };
 
     /// Opens a file to be read.
     fn open(&self, place: &PathBuf) -> io::Result<Self::Source>

@@ -1,7 +1,8 @@
 //! What a place of the system leads to, and the bytes of its file.
 
-ghost use Rattle.std.specs.Prelude.{◌≡◌, ◌<◌, ◌≤◌, IfOk, IfSome, length, take};
+ghost use Rattle.std.specs.Prelude.{◌≡◌, ◌<◌, ◌≤◌, Err, IfErr, IfOk, IfSome, length, take};
 ghost use Rattle.std.specs.Io.KnownBytes.{Consumes};
+ghost use Rattle.std.specs.IoError.{error_kind};
 ghost use Rattle.std.specs.Path.{path_buf_bytes};
 ghost use Rattle.redo_dir.specs.Called.{IsOpenedAs, IsStandingAs, IsToldAs};
 
@@ -92,7 +93,8 @@ fn seen_of(about: &Metadata) -> Seen
 
 /// What a place leads to.
 pub(crate) fn look_at<C: Calls>(calls: &C, place: &PathBuf) -> io::Result<Seen>
-    ensures { IfOk result (IsStandingAs (C.stands calls.now) (path_buf_bytes place.now)) }
+    ensures seen { IfOk result (IsStandingAs (C.stands calls.now) (path_buf_bytes place.now)) }
+    ensures missing { IfErr result (λ error. C.stands calls.now (path_buf_bytes place.now) (Err (error_kind error))) }
 {
     let about = calls.look(place)?;
     Ok(seen_of(&about))

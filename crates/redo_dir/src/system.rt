@@ -1,8 +1,10 @@
 //! A directory of the system, as a run works in it.
 
 ghost use Rattle.std.specs.Path.{path_buf_bytes, path_join, path_with_file_name};
-ghost use Rattle.std.specs.Prelude.{◌≡◌, ◌≢◌, ◌++◌, ◌∷◌, ◌<◌, [], Bool, IfOk, OnErr, OnOk, false, map, option_copied, string_bytes, true, vec_capacity, vec_len};
+ghost use Rattle.std.specs.Prelude.{◌≡◌, ◌≢◌, ◌++◌, ◌∷◌, ◌<◌, [], Bool, IfErr, IfOk, OnErr, OnOk, false, map, option_copied, string_bytes, true, vec_capacity, vec_len};
+ghost use Rattle.std.specs.IoError.{error_kind};
 ghost use Rattle.std.specs.List.{AllByRecursion};
+ghost use Rattle.std.specs.declared.io.ErrorKind.TheVariants.{NotFound};
 ghost use Rattle.redo_dir.specs.Called.{HasDone, IsCovered, IsWaitedAs, dir_put};
 ghost use Rattle.redo_dir.specs.Stored.{Finishes, IsNamed, Journals, Puts, Removes, put_of, step_of, steps_of};
 ghost use Rattle.redo_dir.specs.declared.access.Access.TheVariants.{Read, StoreSynced};
@@ -158,7 +160,8 @@ impl<'a, C: Calls> SystemDir<'a, C> {
 
     /// Where the system has a path of the tree. The place is made in one block.
     fn place(&self, alloc: Global, path: &Path) -> io::Result<PathBuf>
-        ensures { IfOk result (λ place. path_buf_bytes place ≡ path_join self.now.top.now path.now) }
+        ensures place { IfOk result (λ place. path_buf_bytes place ≡ path_join self.now.top.now path.now) }
+        ensures other { IfErr result (λ error. error_kind error ≢ NotFound) }
     {
         let Ok(text) = str::from_utf8(path.text()) else {
             return Err(io::Error::from(ErrorKind::InvalidFilename));
@@ -376,14 +379,17 @@ impl<'a, C: Calls> SystemDir<'a, C> {
 }
 
 impl<'a, C: Calls> WorkDir for SystemDir<'a, C> {
-    ghost use Rattle.std.specs.Prelude.{option_map};
+    ghost use Rattle.std.specs.Prelude.{Err, option_map};
     ghost use Rattle.std.specs.Path.{path_join};
+    ghost use Rattle.std.specs.declared.io.ErrorKind.TheVariants.{NotFound};
     ghost use Rattle.redo_dir.specs.Called.{IsOpenedAs, IsStandingAs};
     ghost use Rattle.redo_dir.specs.Stored.{steps_of};
 
     ghost lists = { λ d dir. C.lists d.calls (path_join d.top.now dir) };
 
     ghost looks = { λ d path. IsStandingAs (C.stands d.calls) (path_join d.top.now path) };
+
+    ghost lacks = { λ d path. C.stands d.calls (path_join d.top.now path) (Err NotFound) };
 
     ghost reads = { λ d path. IsOpenedAs (C.opens d.calls) (path_join d.top.now path) };
 

@@ -2,6 +2,7 @@
 
 ghost use Rattle.std.specs.Prelude.{◌≡◌, ◌≢◌, ◌++◌, ◌∷◌, [], IfErr, IfOk, OnErr, OnOk, Some, length};
 ghost use Rattle.std.specs.IoError.{error_kind};
+ghost use Rattle.std.specs.declared.io.ErrorKind.TheVariants.{NotFound};
 ghost use Rattle.redo_dir.specs.Loaded.{names_in};
 ghost use Rattle.redo_which.specs.Candidates.{book_path, journal_path};
 ghost use Rattle.redo_dir.specs.Stored.{Finishes, IsNamed, Journals, Removes, put_of};
@@ -48,6 +49,8 @@ pub trait WorkDir {
     ghost lists: { Self → List ℕ → List (Option (List ℕ)) → Type 0 };
     // A path was looked at: a directory, a file of some size, or neither.
     ghost looks: { Self → List ℕ → Seen → Type 0 };
+    // A path was looked at, and nothing was there.
+    ghost lacks: { Self → List ℕ → Type 0 };
     // The file at a path was read, which had so many bytes when it was looked at, and these bytes came.
     ghost reads: { Self → List ℕ → ℕ → List ℕ → Type 0 };
     // A call at a path was answered by this error.
@@ -62,9 +65,11 @@ pub trait WorkDir {
         ensures answer { IfOk result (λ names. lists self.now dir.now (names_in names.items)) }
         ensures refused { IfErr result (λ error. refuses self.now dir.now (error_kind error)) };
 
-    /// Looks at a path, and follows no link. What is a file isn't opened.
+    /// Looks at a path, and follows no link. What is a file isn't opened. The error is `NotFound` only where nothing is
+    /// there.
     fn look(&self, alloc: Global, path: &Path) -> io::Result<Seen>
         ensures answer { IfOk result (looks self.now path.now) }
+        ensures missing { IfErr result (λ error. error_kind error ≡ NotFound → lacks self.now path.now) }
         ensures refused { IfErr result (λ error. refuses self.now path.now (error_kind error)) };
 
     /// Reads the file at a path that had `size` bytes when it was looked at: the first `size` of those that it has

@@ -66,7 +66,7 @@ impl<D: WorkDir> LenientDir<D> {
     /// Whether no book is known to stand at a place that has a target in a directory or below it.
     fn names_none_below(&self, alloc: Global, place: &Path, dir: &Path) -> bool
         ensures { result ≡ true →
-            NamesNoneBelow (D.looks self.now.dir) (D.reads self.now.dir) (D.refuses self.now.dir) dir.now place.now }
+            NamesNoneBelow (D.looks self.now.dir) (D.reads self.now.dir) (D.lacks self.now.dir) dir.now place.now }
     {
         match self.dir.look(alloc, place) {
             Ok(Seen::File(size)) => match self.dir.read(alloc, place, size) {
@@ -81,9 +81,9 @@ impl<D: WorkDir> LenientDir<D> {
     /// The same of the book and of the journal.
     fn own_name_none_below(&self, alloc: Global, dir: &Path) -> Result<bool, AllocError>
         ensures book { IfOk result (λ none. none ≡ true →
-            NamesNoneBelow (D.looks self.now.dir) (D.reads self.now.dir) (D.refuses self.now.dir) dir.now path_of_book) }
+            NamesNoneBelow (D.looks self.now.dir) (D.reads self.now.dir) (D.lacks self.now.dir) dir.now path_of_book) }
         ensures journal { IfOk result (λ none. none ≡ true →
-            NamesNoneBelow (D.looks self.now.dir) (D.reads self.now.dir) (D.refuses self.now.dir) dir.now path_of_journal) }
+            NamesNoneBelow (D.looks self.now.dir) (D.reads self.now.dir) (D.lacks self.now.dir) dir.now path_of_journal) }
     {
         let book = Path::of_text(alloc, BOOK)?;
         if !self.names_none_below(alloc, &book, dir) {
@@ -96,8 +96,8 @@ impl<D: WorkDir> LenientDir<D> {
     /// What counts as the names in a directory that the system refused to list: none, or the error.
     fn hide(&self, alloc: Global, dir: &Path, error: io::Error) -> io::Result<Vec<Option<String>>>
         requires refused { D.refuses self.now.dir dir.now (error_kind error) }
-        ensures hidden { IfOk result (λ names. IsHidden (D.looks self.now.dir) (D.reads self.now.dir) (D.refuses self.now.dir)
-            dir.now (names_in names.items)) }
+        ensures hidden { IfOk result (λ names. IsHidden (D.looks self.now.dir) (D.reads self.now.dir) (D.lacks self.now.dir)
+            (D.refuses self.now.dir) dir.now (names_in names.items)) }
         ensures refused { IfErr result (λ other. other ≡ error) }
     {
         if error.kind() != ErrorKind::PermissionDenied {
@@ -116,9 +116,11 @@ impl<D: WorkDir> LenientDir<D> {
 impl<D: WorkDir> WorkDir for LenientDir<D> {
     ghost use Rattle.redo_lenient.specs.Lenient.{ListsOrHides};
 
-    ghost lists = { λ d dir names. ListsOrHides (D.lists d.dir) (D.looks d.dir) (D.reads d.dir) (D.refuses d.dir) dir names };
+    ghost lists = { λ d dir names. ListsOrHides (D.lists d.dir) (D.looks d.dir) (D.reads d.dir) (D.lacks d.dir) (D.refuses d.dir) dir names };
 
     ghost looks = { λ d path seen. D.looks d.dir path seen };
+
+    ghost lacks = { λ d path. D.lacks d.dir path };
 
     ghost reads = { λ d path size bytes. D.reads d.dir path size bytes };
 

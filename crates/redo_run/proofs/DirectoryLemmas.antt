@@ -57,24 +57,24 @@ module _ (lists : List ℕ → List (Option (List ℕ)) → Type 0) (looks : Loo
   unread_part paths (inr (loaded, passed, l, inr why)) = absurd why.2
 
   -- a run that stores nothing tells the same
-  pub in_preview : (fault : RunDirFault) → IsUnforeseen lists looks reads refuses options fault → FallsInPreview lists looks reads refuses options fault
-  in_preview Load h = h
-  in_preview (Book n) h = h
-  in_preview TooMany h = h
-  in_preview Memory h = tt
-  in_preview _ h = absurd h
+  pub in_preview : (lacks : List ℕ → Type 0) (fault : RunDirFault) → IsUnforeseen lists looks reads refuses options fault → FallsInPreview lists looks reads lacks refuses options fault
+  in_preview lacks Load h = h
+  in_preview lacks (Book n) h = h
+  in_preview lacks TooMany h = h
+  in_preview lacks Memory h = tt
+  in_preview lacks _ h = absurd h
 
 -- what was read, built and stored, and what each fault says of it
-module _ (lists : List ℕ → List (Option (List ℕ)) → Type 0) (looks : Looks) (reads : Reads) (refuses : List ℕ → ErrorKind → Type 0) (told : List ℕ → ErrorKind → Type 0) (options : Options) (before : List Step) where
+module _ (lists : List ℕ → List (Option (List ℕ)) → Type 0) (looks : Looks) (reads : Reads) (lacks : List ℕ → Type 0) (refuses : List ℕ → ErrorKind → Type 0) (told : List ℕ → ErrorKind → Type 0) (options : Options) (before : List Step) where
   -- none is done before the build has answered
-  pub unforeseen : (fault : RunDirFault) → IsUnforeseen lists looks reads refuses options fault → IsFaultOf lists looks reads refuses told options before before fault
+  pub unforeseen : (fault : RunDirFault) → IsUnforeseen lists looks reads refuses options fault → IsFaultOf lists looks reads lacks refuses told options before before fault
   unforeseen Load h = (h, refl)
   unforeseen (Book n) h = (h, refl)
   unforeseen TooMany h = (h, refl)
   unforeseen Memory h = inl refl
   unforeseen _ h = absurd h
 
-  pub undone_fault : (r : Ran lists looks reads refuses options) (after : List Step) (fault : RunDirFault) → IsPart told (clearing r.loaded r.mended) (storing r.mended (to_store r.mended r.report.files.items r.book)) before after fault → IsFaultOf lists looks reads refuses told options before after fault
+  pub undone_fault : (r : Ran lists looks reads lacks options) (after : List Step) (fault : RunDirFault) → IsPart told (clearing r.loaded r.mended) (storing r.mended (to_store r.mended r.report.files.items r.book)) before after fault → IsFaultOf lists looks reads lacks refuses told options before after fault
   undone_fault r after (Store place) h = (r, h)
   undone_fault r after Journal h = (r, h)
   undone_fault r after Left h = (r, h.0, h.1, h.2)
@@ -99,9 +99,9 @@ one_node (Some (File bytes)) (Some (File others)) k f = let same : bytes ≡ oth
 pub same_tree : (one two : Tree) → IsTree one → IsTree two → AreNamedAlike one two → ((p : List ℕ) → file_at two p ≡ file_at one p) → two ≡ one
 same_tree one two is_one is_two alike same = one_sorted two one is_two.sorted is_one.sorted (λ p. one_node (node_at two p) (node_at one p) (alike p) (same p))
 
-module _ (lists : List ℕ → List (Option (List ℕ)) → Type 0) (looks : Looks) (reads : Reads) (refuses : List ℕ → ErrorKind → Type 0) (options : Options) (f : Foreseen) where
+module _ (lists : List ℕ → List (Option (List ℕ)) → Type 0) (looks : Looks) (reads : Reads) (lacks : List ℕ → Type 0) (options : Options) (f : Foreseen) where
   -- all files decide
-  pub decided_all : (wanted : Wanted) → wanted.all ≡ true → IsLoadedAnd lists looks (ReadIf (wants wanted) reads) refuses options f → IsDecided lists looks reads refuses options f
+  pub decided_all : (wanted : Wanted) → wanted.all ≡ true → IsLoadedAnd lists looks (ReadIf (wants wanted) reads) lacks options f → IsDecided lists looks reads lacks options f
   decided_all wanted all (loaded, l, own, is) =
       let report = f.run.report in let book = f.run.book in let exit = f.run.exit in
       let Is : Tree → Type 0 = λ tree. (mended : Tree) × MendsTo tree mended × IsBuilt (to_build options mended) options report book exit × (steps_of tree mended report book ≡ steps_of loaded (arc_value f.mended) report book) in
@@ -163,8 +163,8 @@ module _ (mends : Mends) (builds : Builds) (steps : Steps) (one_past : OnePast) 
       )
 
 -- the files that were read decide, if they are all that was looked into
-pub decided_part : Mends → Builds → Steps → OnePast → (lists : List ℕ → List (Option (List ℕ)) → Type 0) (looks : Looks) (reads : Reads) (refuses : List ℕ → ErrorKind → Type 0) (options : Options) (f : Foreseen) (paths : List ℕ → Bool) (loaded : Tree) (passed : ℕ) → IsCoveredBy paths f → HasMended paths loaded → IsLoaded lists (Leads looks (ReadIf paths reads)) loaded passed → AreFilesOrNone refuses loaded → IsForeseen options loaded passed f → IsDecided lists looks reads refuses options f
-decided_part mends builds steps one_past lists looks reads refuses options f paths loaded passed c has l own is = record {
+pub decided_part : Mends → Builds → Steps → OnePast → (lists : List ℕ → List (Option (List ℕ)) → Type 0) (looks : Looks) (reads : Reads) (lacks : List ℕ → Type 0) (options : Options) (f : Foreseen) (paths : List ℕ → Bool) (loaded : Tree) (passed : ℕ) → IsCoveredBy paths f → HasMended paths loaded → IsLoaded lists (Leads looks (ReadIf paths reads)) loaded passed → AreFilesOrNone lacks loaded → IsForeseen options loaded passed f → IsDecided lists looks reads lacks options f
+decided_part mends builds steps one_past lists looks reads lacks options f paths loaded passed c has l own is = record {
   paths = paths;
   loaded = loaded;
   is_loaded = subst (IsLoaded lists (Leads looks (ReadIf paths reads)) loaded) (sym is.counted) l;
@@ -177,14 +177,14 @@ decided_part mends builds steps one_past lists looks reads refuses options f pat
 
 module _ (lists : List ℕ → List (Option (List ℕ)) → Type 0) (looks : Looks) (paths : List ℕ → Bool) (reads : Reads) (refuses : List ℕ → ErrorKind → Type 0) (options : Options) (loaded : Tree) (passed later : ℕ) (same : later ≡ passed) (l : IsLoaded lists (Leads looks (ReadIf paths reads)) loaded passed) where
   -- what is foreseen of the tree that was loaded
-  pub attempted : AreFilesOrNone refuses loaded → (result : Result Foreseen RunDirFault) → IfOk result (IsForeseen options loaded later) → IfOk result (IsLoadedAnd lists looks (ReadIf paths reads) refuses options)
-  attempted own (Ok f) is = (
+  pub attempted : (lacks : List ℕ → Type 0) → AreFilesOrNone lacks loaded → (result : Result Foreseen RunDirFault) → IfOk result (IsForeseen options loaded later) → IfOk result (IsLoadedAnd lists looks (ReadIf paths reads) lacks options)
+  attempted lacks own (Ok f) is = (
     loaded,
     subst (IsLoaded lists (Leads looks (ReadIf paths reads)) loaded) (sym (is.counted ∙ same)) l,
     own,
     subst (λ n. IsForeseen options loaded n f) (sym is.counted) is,
   )
-  attempted own (Err fault) is = tt
+  attempted lacks own (Err fault) is = tt
 
   pub not_attempted : (result : Result Foreseen RunDirFault) → IfErr result (IsUnforeseenOver options loaded) → IfErr result (IsUnloadedOr lists looks paths reads refuses options)
   not_attempted (Ok f) h = tt
@@ -192,9 +192,9 @@ module _ (lists : List ℕ → List (Option (List ℕ)) → Type 0) (looks : Loo
 
 -- the last round
 module _ (lists : List ℕ → List (Option (List ℕ)) → Type 0) (looks : Looks) (reads : Reads) (refuses : List ℕ → ErrorKind → Type 0) (options : Options) (wanted : Wanted) (all : wanted.all ≡ true) where
-  pub attempted_all : (result : Result Foreseen RunDirFault) → IfOk result (IsLoadedAnd lists looks (ReadIf (wants wanted) reads) refuses options) → IfOk result (IsDecided lists looks reads refuses options)
-  attempted_all (Ok f) is = decided_all lists looks reads refuses options f wanted all is
-  attempted_all (Err fault) is = tt
+  pub attempted_all : (lacks : List ℕ → Type 0) (result : Result Foreseen RunDirFault) → IfOk result (IsLoadedAnd lists looks (ReadIf (wants wanted) reads) lacks options) → IfOk result (IsDecided lists looks reads lacks options)
+  attempted_all lacks (Ok f) is = decided_all lists looks reads lacks options f wanted all is
+  attempted_all lacks (Err fault) is = tt
 
   pub not_attempted_all : (result : Result Foreseen RunDirFault) → IfErr result (IsUnloadedOr lists looks (wants wanted) reads refuses options) → IfErr result (IsUnforeseen lists looks reads refuses options)
   not_attempted_all (Ok f) h = tt

@@ -128,8 +128,8 @@ module _ (paths : List ℕ → Bool) (loaded : Tree) (passed : ℕ) (opened : Op
 -- ---- what was opened
 
 module _ (lists : List ℕ → List (Option (List ℕ)) → Type 0) (looks : Looks) (reads : Reads) (refuses : List ℕ → ErrorKind → Type 0) where
-  module _ (paths : List ℕ → Bool) (loaded : Tree) (passed : ℕ) (opened : Opened) (l : IsLoaded lists (Leads looks (ReadIf paths reads)) loaded passed) (own : AreFilesOrNone refuses loaded) (is : IsOpenedOf loaded passed opened) where
-    opened_by : HasBook paths opened.past.tree opened.past.book → DecidesOpened paths loaded opened → IsOpened lists looks reads refuses opened
+  module _ (lacks : List ℕ → Type 0) (paths : List ℕ → Bool) (loaded : Tree) (passed : ℕ) (opened : Opened) (l : IsLoaded lists (Leads looks (ReadIf paths reads)) loaded passed) (own : AreFilesOrNone lacks loaded) (is : IsOpenedOf loaded passed opened) where
+    opened_by : HasBook paths opened.past.tree opened.past.book → DecidesOpened paths loaded opened → IsOpened lists looks reads lacks opened
     opened_by has_book decides = record {
       paths = paths;
       loaded = loaded;
@@ -140,11 +140,11 @@ module _ (lists : List ℕ → List (Option (List ℕ)) → Type 0) (looks : Loo
       decides = decides;
     }
 
-    pub opened_part : Mends → HasMended paths loaded → HasBook paths opened.past.tree opened.past.book → IsOpened lists looks reads refuses opened
+    pub opened_part : Mends → HasMended paths loaded → HasBook paths opened.past.tree opened.past.book → IsOpened lists looks reads lacks opened
     opened_part law has_mended has_book =
         opened_by has_book (decided_by paths loaded passed opened is law has_mended has_book)
 
-    pub opened_all : ((p : List ℕ) → paths p ≡ true) → IsOpened lists looks reads refuses opened
+    pub opened_all : ((p : List ℕ) → paths p ≡ true) → IsOpened lists looks reads lacks opened
     opened_all all = opened_by (λ p m file. all p) (decided_by_all paths loaded passed opened is all)
 
   -- ---- faults

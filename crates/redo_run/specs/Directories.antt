@@ -4,7 +4,6 @@ use Rattle.std.specs.Prelude.{◌≡◌, ◌↔◌, ◌++◌, ◌⊎◌, ◌+◌
 use Rattle.std.specs.Prelude.{Ok, Err, None, if◌then◌else◌, length, take}
 use Rattle.std.specs.Io.KnownBytes.{Appends}
 use Rattle.std.specs.declared.io.ErrorKind.{ErrorKind}
-use Rattle.std.specs.declared.io.ErrorKind.TheVariants.{NotFound}
 use Rattle.redo_rules.specs.Build.{GivenView}
 use Rattle.redo_rules.specs.Results.{IsGiven, IsOfTree, IsRefused, IsResult, NeedsTooMany as TreeNeedsTooMany}
 use Rattle.redo_past.specs.NewBook.{IsWithBook}
@@ -63,17 +62,17 @@ IsUnmended tree Memory = Unit {0}
 IsUnmended tree _ = ⊥
 
 -- the tree has a file at this path, or a look at it was answered that nothing stands there
-abbrev pub IsFileOrNone : (List ℕ → ErrorKind → Type 0) → Tree → List ℕ → Type 0
-IsFileOrNone refuses tree path = IsSome (file_at tree path) ⊎ refuses path NotFound
+abbrev pub IsFileOrNone : (List ℕ → Type 0) → Tree → List ℕ → Type 0
+IsFileOrNone lacks tree path = IsSome (file_at tree path) ⊎ lacks path
 
 -- the tree has a book and a journal, or nothing stood in the place of the one that it hasn't
-abbrev pub AreFilesOrNone : (List ℕ → ErrorKind → Type 0) → Tree → Type 0
-AreFilesOrNone refuses tree = IsFileOrNone refuses tree book_path × IsFileOrNone refuses tree journal_path
+abbrev pub AreFilesOrNone : (List ℕ → Type 0) → Tree → Type 0
+AreFilesOrNone lacks tree = IsFileOrNone lacks tree book_path × IsFileOrNone lacks tree journal_path
 
 -- whether something stands at this path that is no file of the tree
-abbrev pub IsBlocked : Looks → (List ℕ → ErrorKind → Type 0) → Tree → List ℕ → Bool → Type 0
-IsBlocked looks refuses tree path false = IsFileOrNone refuses tree path
-IsBlocked looks refuses tree path true = (file_at tree path ≡ None) × (seen : Seen) × looks path seen
+abbrev pub IsBlocked : Looks → (List ℕ → Type 0) → Tree → List ℕ → Bool → Type 0
+IsBlocked looks lacks tree path false = IsFileOrNone lacks tree path
+IsBlocked looks lacks tree path true = (file_at tree path ≡ None) × (seen : Seen) × looks path seen
 
 -- what stands in the place of the book or of the journal is no file of the tree that was loaded
 pub record HasNoFile (lists : List ℕ → List (Option (List ℕ)) → Type 0) (looks : Looks) (reads : Reads) : Type 0 where
@@ -114,12 +113,12 @@ Decides paths options loaded report book exit steps =
 
 -- A tree was loaded with the files at some paths, and each other one empty. It was mended, and built without what is to be
 -- taken back. What was read decides what comes of it.
-pub record Ran (lists : List ℕ → List (Option (List ℕ)) → Type 0) (looks : Looks) (reads : Reads) (refuses : List ℕ → ErrorKind → Type 0) (options : Options) : Type 0 where
+pub record Ran (lists : List ℕ → List (Option (List ℕ)) → Type 0) (looks : Looks) (reads : Reads) (lacks : List ℕ → Type 0) (options : Options) : Type 0 where
   pub paths : List ℕ → Bool
   pub loaded : Tree
   pub passed : ℕ
   pub is_loaded : IsLoaded lists (Leads looks (ReadIf paths reads)) loaded passed
-  pub own : AreFilesOrNone refuses loaded
+  pub own : AreFilesOrNone lacks loaded
   pub mended : Tree
   pub mends : MendsTo loaded mended
   pub report : Report
@@ -130,11 +129,11 @@ pub record Ran (lists : List ℕ → List (Option (List ℕ)) → Type 0) (looks
 
 -- Such a tree was loaded, mended and built; all steps were done by which what a broken-off run had left is cleared away and
 -- the build is stored; and the writer took the report, without the files, and nothing else.
-pub record ReportsTree (lists : List ℕ → List (Option (List ℕ)) → Type 0) (looks : Looks) (reads : Reads) (refuses : List ℕ → ErrorKind → Type 0) (options : Options) (before after : List Step) (old new : Option (List ℕ)) (run : DirRun) : Type 0 where
+pub record ReportsTree (lists : List ℕ → List (Option (List ℕ)) → Type 0) (looks : Looks) (reads : Reads) (lacks : List ℕ → Type 0) (options : Options) (before after : List Step) (old new : Option (List ℕ)) (run : DirRun) : Type 0 where
   pub paths : List ℕ → Bool
   pub loaded : Tree
   pub is_loaded : IsLoaded lists (Leads looks (ReadIf paths reads)) loaded run.passed
-  pub own : AreFilesOrNone refuses loaded
+  pub own : AreFilesOrNone lacks loaded
   pub mended : Tree
   pub mends : MendsTo loaded mended
   pub past : IsOfTree (to_build options mended) run.past
@@ -153,11 +152,11 @@ pub record Stays (lists : List ℕ → List (Option (List ℕ)) → Type 0) (loo
 
 -- a tree was loaded and mended, and built without what is to be taken back, as what was read decides; and the writer took
 -- the report, without the files, and nothing else
-pub record PreviewsTree (lists : List ℕ → List (Option (List ℕ)) → Type 0) (looks : Looks) (reads : Reads) (refuses : List ℕ → ErrorKind → Type 0) (options : Options) (old new : Option (List ℕ)) (run : DirRun) : Type 0 where
+pub record PreviewsTree (lists : List ℕ → List (Option (List ℕ)) → Type 0) (looks : Looks) (reads : Reads) (lacks : List ℕ → Type 0) (options : Options) (old new : Option (List ℕ)) (run : DirRun) : Type 0 where
   pub paths : List ℕ → Bool
   pub loaded : Tree
   pub is_loaded : IsLoaded lists (Leads looks (ReadIf paths reads)) loaded run.passed
-  pub own : AreFilesOrNone refuses loaded
+  pub own : AreFilesOrNone lacks loaded
   pub mended : Tree
   pub mends : MendsTo loaded mended
   pub past : IsOfTree (to_build options mended) run.past
@@ -166,32 +165,32 @@ pub record PreviewsTree (lists : List ℕ → List (Option (List ℕ)) → Type 
   pub written : Appends old new (report_text run.report false)
 
 -- why a run that stores nothing has no report
-abbrev pub FallsInPreview : (List ℕ → List (Option (List ℕ)) → Type 0) → Looks → Reads → (List ℕ → ErrorKind → Type 0) → Options → RunDirFault → Type 0
-FallsInPreview lists looks reads refuses options Load = IsUnreadable lists looks reads refuses
-FallsInPreview lists looks reads refuses options (Book n) = Stays lists looks reads options (Book n)
-FallsInPreview lists looks reads refuses options TooMany = Stays lists looks reads options TooMany
-FallsInPreview lists looks reads refuses options Device = Ran lists looks reads refuses options
-FallsInPreview lists looks reads refuses options Memory = Unit {0}
-FallsInPreview lists looks reads refuses options _ = ⊥
+abbrev pub FallsInPreview : (List ℕ → List (Option (List ℕ)) → Type 0) → Looks → Reads → (List ℕ → Type 0) → (List ℕ → ErrorKind → Type 0) → Options → RunDirFault → Type 0
+FallsInPreview lists looks reads lacks refuses options Load = IsUnreadable lists looks reads refuses
+FallsInPreview lists looks reads lacks refuses options (Book n) = Stays lists looks reads options (Book n)
+FallsInPreview lists looks reads lacks refuses options TooMany = Stays lists looks reads options TooMany
+FallsInPreview lists looks reads lacks refuses options Device = Ran lists looks reads lacks options
+FallsInPreview lists looks reads lacks refuses options Memory = Unit {0}
+FallsInPreview lists looks reads lacks refuses options _ = ⊥
 
 -- Why a run has no report, and which steps were done all the same. None is done before the build has answered.
-abbrev pub IsFaultOf : (List ℕ → List (Option (List ℕ)) → Type 0) → Looks → Reads → (List ℕ → ErrorKind → Type 0) → (List ℕ → ErrorKind → Type 0) → Options → List Step → List Step → RunDirFault → Type 0
-IsFaultOf lists looks reads refuses told options before after Load = IsUnreadable lists looks reads refuses × (after ≡ before)
-IsFaultOf lists looks reads refuses told options before after (Book n) =
+abbrev pub IsFaultOf : (List ℕ → List (Option (List ℕ)) → Type 0) → Looks → Reads → (List ℕ → Type 0) → (List ℕ → ErrorKind → Type 0) → (List ℕ → ErrorKind → Type 0) → Options → List Step → List Step → RunDirFault → Type 0
+IsFaultOf lists looks reads lacks refuses told options before after Load = IsUnreadable lists looks reads refuses × (after ≡ before)
+IsFaultOf lists looks reads lacks refuses told options before after (Book n) =
     Stays lists looks reads options (Book n) × (after ≡ before)
-IsFaultOf lists looks reads refuses told options before after TooMany =
+IsFaultOf lists looks reads lacks refuses told options before after TooMany =
     Stays lists looks reads options TooMany × (after ≡ before)
-IsFaultOf lists looks reads refuses told options before after (Store place) =
-    (r : Ran lists looks reads refuses options) × StopsAt told (steps_of r.loaded r.mended r.report r.book) before after (length (clearing r.loaded r.mended) + suc place)
-IsFaultOf lists looks reads refuses told options before after Journal =
-    (r : Ran lists looks reads refuses options) × StopsAt told (steps_of r.loaded r.mended r.report r.book) before after (length (clearing r.loaded r.mended))
-IsFaultOf lists looks reads refuses told options before after Left =
-    (r : Ran lists looks reads refuses options) × (count : ℕ) × (count < length (clearing r.loaded r.mended)) × StopsAt told (steps_of r.loaded r.mended r.report r.book) before after count
-IsFaultOf lists looks reads refuses told options before after Device =
-    (r : Ran lists looks reads refuses options) × (after ≡ before ++ steps_of r.loaded r.mended r.report r.book)
-IsFaultOf lists looks reads refuses told options before after Memory =
+IsFaultOf lists looks reads lacks refuses told options before after (Store place) =
+    (r : Ran lists looks reads lacks options) × StopsAt told (steps_of r.loaded r.mended r.report r.book) before after (length (clearing r.loaded r.mended) + suc place)
+IsFaultOf lists looks reads lacks refuses told options before after Journal =
+    (r : Ran lists looks reads lacks options) × StopsAt told (steps_of r.loaded r.mended r.report r.book) before after (length (clearing r.loaded r.mended))
+IsFaultOf lists looks reads lacks refuses told options before after Left =
+    (r : Ran lists looks reads lacks options) × (count : ℕ) × (count < length (clearing r.loaded r.mended)) × StopsAt told (steps_of r.loaded r.mended r.report r.book) before after count
+IsFaultOf lists looks reads lacks refuses told options before after Device =
+    (r : Ran lists looks reads lacks options) × (after ≡ before ++ steps_of r.loaded r.mended r.report r.book)
+IsFaultOf lists looks reads lacks refuses told options before after Memory =
     (after ≡ before) ⊎
-    ((r : Ran lists looks reads refuses options) × (count : ℕ) × (after ≡ before ++ take count (steps_of r.loaded r.mended r.report r.book)))
+    ((r : Ran lists looks reads lacks options) × (count : ℕ) × (after ≡ before ++ take count (steps_of r.loaded r.mended r.report r.book)))
 
 -- The names of a tree were listed, and no file of it was read. The writer took the list of the target's candidates,
 -- and nothing else: that of each tree with files at the same paths, whatever is in them.

@@ -50,11 +50,11 @@ DecidesOpened paths loaded opened =
 
 -- A tree was loaded with the files at some paths, and each other one empty, and this was opened of it. What was read has
 -- the book and what it names, and decides what is opened.
-pub record IsOpened (lists : List ℕ → List (Option (List ℕ)) → Type 0) (looks : Looks) (reads : Reads) (refuses : List ℕ → ErrorKind → Type 0) (opened : Opened) : Type 0 where
+pub record IsOpened (lists : List ℕ → List (Option (List ℕ)) → Type 0) (looks : Looks) (reads : Reads) (lacks : List ℕ → Type 0) (opened : Opened) : Type 0 where
   pub paths : List ℕ → Bool
   pub loaded : Tree
   pub is_loaded : IsLoaded lists (Leads looks (ReadIf paths reads)) loaded opened.passed
-  pub own : AreFilesOrNone refuses loaded
+  pub own : AreFilesOrNone lacks loaded
   pub is : IsOpenedOf loaded opened.passed opened
   pub has_book : HasBook paths opened.past.tree opened.past.book
   pub decides : DecidesOpened paths loaded opened

@@ -74,7 +74,7 @@ where
     ensures names { AreNamesIn (D.lists dir.now) (D.looks dir.now) round.new.names }
     ensures wanted { round.new.wanted ≡ round.old.wanted }
     ensures foreseen { IfOk result (IsLoadedAnd (D.lists dir.now) (D.looks dir.now)
-        (ReadIf (wants round.old.wanted) (D.reads dir.now)) (D.refuses dir.now) options.now) }
+        (ReadIf (wants round.old.wanted) (D.reads dir.now)) (D.lacks dir.now) options.now) }
     ensures fault { IfErr result (IsUnloadedOr (D.lists dir.now) (D.looks dir.now)
         (wants round.old.wanted) (D.reads dir.now) (D.refuses dir.now) options.now) }
 {
@@ -105,7 +105,7 @@ where
     ensures names { AreNamesIn (D.lists dir.now) (D.looks dir.now) round.new.names }
     ensures loaded { IfOk result (λ found. IfSome found (λ tree. IsLoaded (D.lists dir.now)
         (Leads (D.looks dir.now) (ReadIf (wants round.new.wanted) (D.reads dir.now))) tree round.new.names.passed)) }
-    ensures own { IfOk result (λ found. IfSome found (AreFilesOrNone (D.refuses dir.now))) }
+    ensures own { IfOk result (λ found. IfSome found (AreFilesOrNone (D.lacks dir.now))) }
     ensures mended { IfOk result (λ found. IfSome found (HasMended (wants round.new.wanted))) }
     ensures unread { IfErr result (IsUnread (D.lists dir.now) (D.looks dir.now) (D.reads dir.now) (D.refuses dir.now)) }
 {
@@ -157,7 +157,7 @@ where
     ensures opened { host.old.permit ≤ host.new.permit + 1 }
     ensures names { AreNamesIn (D.lists dir.now) (D.looks dir.now) round.new.names }
     ensures decided { IfOk result (λ found. IfSome found
-        (IsDecided (D.lists dir.now) (D.looks dir.now) (D.reads dir.now) (D.refuses dir.now) options.now)) }
+        (IsDecided (D.lists dir.now) (D.looks dir.now) (D.reads dir.now) (D.lacks dir.now) options.now)) }
     ensures unread { IfErr result (IsUnread (D.lists dir.now) (D.looks dir.now) (D.reads dir.now) (D.refuses dir.now)) }
 {
     runs_rest_on_what_they_read();
@@ -199,7 +199,7 @@ where
     requires names { AreNamesIn (D.lists dir.now) (D.looks dir.now) round.old.names }
     ensures opened { host.old.permit ≤ host.new.permit + 1 }
     ensures names { AreNamesIn (D.lists dir.now) (D.looks dir.now) round.new.names }
-    ensures decided { IfOk result (IsDecided (D.lists dir.now) (D.looks dir.now) (D.reads dir.now) (D.refuses dir.now) options.now) }
+    ensures decided { IfOk result (IsDecided (D.lists dir.now) (D.looks dir.now) (D.reads dir.now) (D.lacks dir.now) options.now) }
     ensures fault { IfErr result (IsUnforeseen (D.lists dir.now) (D.looks dir.now) (D.reads dir.now) (D.refuses dir.now) options.now) }
 {
     round.wanted.all = true;
@@ -218,7 +218,7 @@ where
     D::Draft: Send,
     requires permit { 15 ≤ host.old.permit }
     requires names { AreNamesIn (D.lists dir.now) (D.looks dir.now) round.old.names }
-    ensures decided { IfOk result (IsDecided (D.lists dir.now) (D.looks dir.now) (D.reads dir.now) (D.refuses dir.now) options.now) }
+    ensures decided { IfOk result (IsDecided (D.lists dir.now) (D.looks dir.now) (D.reads dir.now) (D.lacks dir.now) options.now) }
     ensures fault { IfErr result (IsUnforeseen (D.lists dir.now) (D.looks dir.now) (D.reads dir.now) (D.refuses dir.now) options.now) }
 {
     for _part in 0..PARTS {
@@ -243,7 +243,7 @@ fn foresee<H: Threads + Wait + Sync, D: WorkDir + Sync, O: Observer>(
 where
     D::Draft: Send,
     requires permit { AllowsRounds host.old.permit }
-    ensures decided { IfOk result (IsDecided (D.lists dir.now) (D.looks dir.now) (D.reads dir.now) (D.refuses dir.now) options.now) }
+    ensures decided { IfOk result (IsDecided (D.lists dir.now) (D.looks dir.now) (D.reads dir.now) (D.lacks dir.now) options.now) }
     ensures fault { IfErr result (IsUnforeseen (D.lists dir.now) (D.looks dir.now) (D.reads dir.now) (D.refuses dir.now) options.now) }
 {
     let names = list(host.rt, host.alloc(), dir, options.workers, cause)?;
@@ -296,10 +296,10 @@ where
     D::Draft: Send,
     requires permit { AllowsRounds host.old.permit }
     requires writer { W.has_failed writer.old ≡ false }
-    ensures report { IfOk result (ReportsTree (D.lists dir.old) (D.looks dir.old) (D.reads dir.old) (D.refuses dir.old)
+    ensures report { IfOk result (ReportsTree (D.lists dir.old) (D.looks dir.old) (D.reads dir.old) (D.lacks dir.old)
         options.now (D.done dir.old) (D.done dir.new) (W.held writer.old) (W.held writer.new)) }
-    ensures fault { IfErr result (IsFaultOf (D.lists dir.old) (D.looks dir.old) (D.reads dir.old) (D.refuses dir.old)
-        (λ path kind. (d : D) × D.refuses d path kind) options.now (D.done dir.old) (D.done dir.new)) }
+    ensures fault { IfErr result (IsFaultOf (D.lists dir.old) (D.looks dir.old) (D.reads dir.old) (D.lacks dir.old)
+        (D.refuses dir.old) (λ path kind. (d : D) × D.refuses d path kind) options.now (D.done dir.old) (D.done dir.new)) }
     ensures untouched { IsUnwritten result writer.old writer.new }
     ensures device { IsErrOf result RunDirFault.Device ↔ (W.has_failed writer.new ≡ true) }
 {
@@ -321,10 +321,11 @@ where
     D::Draft: Send,
     requires permit { AllowsRounds host.old.permit }
     requires writer { W.has_failed writer.old ≡ false }
-    ensures report { IfOk result (PreviewsTree (D.lists dir.now) (D.looks dir.now) (D.reads dir.now) (D.refuses dir.now)
+    ensures report { IfOk result (PreviewsTree (D.lists dir.now) (D.looks dir.now) (D.reads dir.now) (D.lacks dir.now)
         options.now (W.held writer.old) (W.held writer.new)) }
     ensures fault { IfErr result
-        (FallsInPreview (D.lists dir.now) (D.looks dir.now) (D.reads dir.now) (D.refuses dir.now) options.now) }
+        (FallsInPreview (D.lists dir.now) (D.looks dir.now) (D.reads dir.now) (D.lacks dir.now)
+        (D.refuses dir.now) options.now) }
     ensures untouched { IsUnwritten result writer.old writer.new }
     ensures device { IsErrOf result RunDirFault.Device ↔ (W.has_failed writer.new ≡ true) }
 {

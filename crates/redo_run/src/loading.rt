@@ -47,7 +47,7 @@ fn is_blocked<D: WorkDir>(
     tree: &Tree,
     place: &Path,
 ) -> Result<bool, LoadFault>
-    ensures blocked { IfOk result (IsBlocked (D.looks dir.now) (D.refuses dir.now) tree.now place.now) }
+    ensures blocked { IfOk result (IsBlocked (D.looks dir.now) (D.lacks dir.now) tree.now place.now) }
     ensures refused { IfErr result (IsRefusedBy (D.refuses dir.now)) }
 {
     if tree.content(place).is_some() {
@@ -99,7 +99,7 @@ fn check_place<D: WorkDir>(
     place: &FilePlace,
     cause: &mut Cause,
 ) -> Result<(), RunDirFault>
-    ensures alone { IfOk result (λ _. IsFileOrNone (D.refuses dir.now) tree.now place.now.path) }
+    ensures alone { IfOk result (λ _. IsFileOrNone (D.lacks dir.now) tree.now place.now.path) }
     ensures refused { IfErr result (HasNoPlace (D.looks dir.now) (D.refuses dir.now) tree.now place.now.path) }
 {
     match is_blocked(dir, alloc, tree, &place.path) {
@@ -119,7 +119,7 @@ fn check_places<D: WorkDir>(
     tree: &Tree,
     cause: &mut Cause,
 ) -> Result<(), RunDirFault>
-    ensures own { IfOk result (λ _. AreFilesOrNone (D.refuses dir.now) tree.now) }
+    ensures own { IfOk result (λ _. AreFilesOrNone (D.lacks dir.now) tree.now) }
     ensures refused { IfErr result (HasNoOwnPlace (D.looks dir.now) (D.refuses dir.now) tree.now) }
 {
     let book = FilePlace {
@@ -176,7 +176,7 @@ where
     ensures passed { names.new.passed ≡ names.old.passed }
     ensures loaded { IfOk result (λ tree. IsLoaded (D.lists dir.now)
         (Leads (D.looks dir.now) (ReadIf (wants reading.entry.wanted.now) (D.reads dir.now))) tree names.old.passed) }
-    ensures own { IfOk result (AreFilesOrNone (D.refuses dir.now)) }
+    ensures own { IfOk result (AreFilesOrNone (D.lacks dir.now)) }
     ensures unread { IfErr result (IsUnread (D.lists dir.now) (D.looks dir.now) (D.reads dir.now) (D.refuses dir.now)) }
 {
     match names.load(lent.rt, dir, lent.alloc, reading) {

@@ -81,7 +81,7 @@ where
     requires names { AreNamesIn (D.lists dir.now) (D.looks dir.now) names.old }
     ensures names { AreNamesIn (D.lists dir.now) (D.looks dir.now) names.new }
     ensures opened { IfOk result (λ found. IfSome found
-        (IsOpened (D.lists dir.now) (D.looks dir.now) (D.reads dir.now) (D.refuses dir.now))) }
+        (IsOpened (D.lists dir.now) (D.looks dir.now) (D.reads dir.now) (D.lacks dir.now))) }
     ensures unread { IfErr result (IsUnread (D.lists dir.now) (D.looks dir.now) (D.reads dir.now) (D.refuses dir.now)) }
 {
     runs_rest_on_what_they_read();
@@ -115,7 +115,7 @@ fn open_all<T: Threads + Sync, D: WorkDir + Sync>(
 where
     D::Draft: Send,
     requires names { AreNamesIn (D.lists dir.now) (D.looks dir.now) names.old }
-    ensures opened { IfOk result (IsOpened (D.lists dir.now) (D.looks dir.now) (D.reads dir.now) (D.refuses dir.now)) }
+    ensures opened { IfOk result (IsOpened (D.lists dir.now) (D.looks dir.now) (D.reads dir.now) (D.lacks dir.now)) }
     ensures fault { IfErr result (IsUnopened (D.lists dir.now) (D.looks dir.now) (D.reads dir.now) (D.refuses dir.now)) }
 {
     let passed = names.passed;
@@ -149,7 +149,7 @@ pub fn open_dir<T: Threads + Sync, D: WorkDir + Sync>(
 ) -> Result<Opened, RunDirFault>
 where
     D::Draft: Send,
-    ensures opened { IfOk result (IsOpened (D.lists dir.now) (D.looks dir.now) (D.reads dir.now) (D.refuses dir.now)) }
+    ensures opened { IfOk result (IsOpened (D.lists dir.now) (D.looks dir.now) (D.reads dir.now) (D.lacks dir.now)) }
     ensures fault { IfErr result (IsUnopened (D.lists dir.now) (D.looks dir.now) (D.reads dir.now) (D.refuses dir.now)) }
 {
     let lent = Lent { rt, alloc };

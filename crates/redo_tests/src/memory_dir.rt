@@ -112,6 +112,8 @@ impl WorkDir for MemoryDir {
 
     ghost looks = { λ _ _ _. Unit {0} };
 
+    ghost lacks = { λ _ _. Unit {0} };
+
     ghost reads = { λ _ _ _ _. Unit {0} };
 
     ghost refuses = { λ _ _ _. Unit {0} };

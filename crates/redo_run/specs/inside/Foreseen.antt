@@ -40,9 +40,9 @@ pub record IsCoveredBy (paths : List ℕ → Bool) (f : Foreseen) : Type 0 where
   pub places : HasPlaces paths (arc_value f.mended) f.run.report
 
 -- a tree was loaded, its book and journal are files, and this is foreseen of it
-abbrev pub IsLoadedAnd : (List ℕ → List (Option (List ℕ)) → Type 0) → Looks → Reads → (List ℕ → ErrorKind → Type 0) → Options → Foreseen → Type 0
-IsLoadedAnd lists looks reads refuses options f =
-    (loaded : Tree) × IsLoaded lists (Leads looks reads) loaded f.run.passed × AreFilesOrNone refuses loaded ×
+abbrev pub IsLoadedAnd : (List ℕ → List (Option (List ℕ)) → Type 0) → Looks → Reads → (List ℕ → Type 0) → Options → Foreseen → Type 0
+IsLoadedAnd lists looks reads lacks options f =
+    (loaded : Tree) × IsLoaded lists (Leads looks reads) loaded f.run.passed × AreFilesOrNone lacks loaded ×
     IsForeseen options loaded f.run.passed f
 
 -- a tree can't be loaded, or it isn't built
@@ -52,11 +52,11 @@ IsUnloadedOr lists looks paths reads refuses options fault =
     ((loaded : Tree) × (passed : ℕ) × IsLoaded lists (Leads looks (ReadIf paths reads)) loaded passed × IsUnforeseenOver options loaded fault)
 
 -- a tree was loaded with some files, and what is foreseen of it is decided by these
-pub record IsDecided (lists : List ℕ → List (Option (List ℕ)) → Type 0) (looks : Looks) (reads : Reads) (refuses : List ℕ → ErrorKind → Type 0) (options : Options) (f : Foreseen) : Type 0 where
+pub record IsDecided (lists : List ℕ → List (Option (List ℕ)) → Type 0) (looks : Looks) (reads : Reads) (lacks : List ℕ → Type 0) (options : Options) (f : Foreseen) : Type 0 where
   pub paths : List ℕ → Bool
   pub loaded : Tree
   pub is_loaded : IsLoaded lists (Leads looks (ReadIf paths reads)) loaded f.run.passed
-  pub own : AreFilesOrNone refuses loaded
+  pub own : AreFilesOrNone lacks loaded
   pub foreseen : IsForeseen options loaded f.run.passed f
   pub decides : Decides paths options loaded f.run.report f.run.book f.run.exit (steps_of loaded (arc_value f.mended) f.run.report f.run.book)
 

@@ -14,10 +14,10 @@ returns-then-branch-clause-decided g c =
     let paths = wants round.wanted in let passed = round.names.passed in
     let loaded = subst (λ o. IfSome o (λ tree. IsLoaded lists (Leads looks (ReadIf paths reads)) tree passed))
     c.in-Some.is c.in_ok-tree.ensures.loaded in
-    let refuses = g.D.WorkDir.refuses dir in
-    let own = subst (λ o. IfSome o (AreFilesOrNone refuses)) c.in-Some.is c.in_ok-tree.ensures.own in
+    let lacks = g.D.WorkDir.lacks dir in
+    let own = subst (λ o. IfSome o (AreFilesOrNone lacks)) c.in-Some.is c.in_ok-tree.ensures.own in
     let mended = subst (λ o. IfSome o (HasMended paths)) c.in-Some.is c.in_ok-tree.ensures.mended in
     let all : c.in_ok-is_covered-in-Ok.field-0 ≡ true = search rules in
     decided_part c.runs_rest_on_what_they_read.ensures.mended c.runs_rest_on_what_they_read.ensures.built
-    c.runs_rest_on_what_they_read.ensures.steps c.a_tree_has_one_past.ensures lists looks reads refuses c.args.options.now f
+    c.runs_rest_on_what_they_read.ensures.steps c.a_tree_has_one_past.ensures lists looks reads lacks c.args.options.now f
     paths c.in-Some.tree passed (c.in_ok-is_covered-in-Ok.ensures all) mended loaded own c.in-Ok.ensures.foreseen

@@ -12,11 +12,12 @@ returns-in_err-write_report-clause-fault g c =
     let looks = g.D.WorkDir.looks c.args.dir.now in
     let reads = g.D.WorkDir.reads c.args.dir.now in
     let refuses = g.D.WorkDir.refuses c.args.dir.now in
+    let lacks = g.D.WorkDir.lacks c.args.dir.now in
     let options = c.args.options.now in
     let run = c.in_ok-preview.field-0.run in
     let decided = c.in_ok-preview.ensures.decided in
     let result : Err Device ≡ c.from_residual-in_err-write_report.result = search rules in
-    subst (λ r. IfErr r (FallsInPreview lists looks reads refuses options)) result (record {
+    subst (λ r. IfErr r (FallsInPreview lists looks reads lacks refuses options)) result (record {
       paths = decided.paths;
       loaded = decided.loaded;
       passed = run.passed;

@@ -15,14 +15,15 @@ returns-in_err-run-clause-fault g c =
     let lists = g.D.WorkDir.lists c.args.dir.now in
     let looks = g.D.WorkDir.looks c.args.dir.now in
     let reads = g.D.WorkDir.reads c.args.dir.now in
+    let lacks = g.D.WorkDir.lacks c.args.dir.now in
     let refuses = g.D.WorkDir.refuses c.args.dir.now in
     let told : List ℕ → ErrorKind → Type 0 = λ path kind. (d : g.row.D.Denot) × g.D.WorkDir.refuses d path kind in
     let options = c.args.options.now in
     let before = g.D.WorkDir.done c.args.dir.now in
     let fault = c.in_err-run.field-0.0 in
     let result : Err fault ≡ c.from_residual.result = search rules in
-    subst (λ r. IfErr r (IsFaultOf lists looks reads refuses told options before before)) result
-    (unforeseen lists looks reads refuses told options before fault c.in_err-run.ensures.fault)
+    subst (λ r. IfErr r (IsFaultOf lists looks reads lacks refuses told options before before)) result
+    (unforeseen lists looks reads lacks refuses told options before fault c.in_err-run.ensures.fault)
 
 -- some of the steps were done
 pub returns-in_err-carry_out-clause-fault : goal.returns-in_err-carry_out-clause-fault
@@ -30,6 +31,7 @@ returns-in_err-carry_out-clause-fault g c =
     let lists = g.D.WorkDir.lists c.args.dir.now in
     let looks = g.D.WorkDir.looks c.args.dir.now in
     let reads = g.D.WorkDir.reads c.args.dir.now in
+    let lacks = g.D.WorkDir.lacks c.args.dir.now in
     let refuses = g.D.WorkDir.refuses c.args.dir.now in
     let told : List ℕ → ErrorKind → Type 0 = λ path kind. (d : g.row.D.Denot) × g.D.WorkDir.refuses d path kind in
     let options = c.args.options.now in
@@ -43,7 +45,7 @@ returns-in_err-carry_out-clause-fault g c =
     let part = subst (λ ss. IsPart told ss (storing tree (to_store tree run.report.files.items run.book)) before after fault) foreseen.left
     (subst (λ ss. IsPart told (steps_left plan) ss before after fault) foreseen.new planned) in
     let p = err_from_is_err_and c.from_residual-in_err-carry_out.result c.from_residual-in_err-carry_out.ensures.1 in
-    rw (p.1, p.2) (undone_fault lists looks reads refuses told options before (record {
+    rw (p.1, p.2) (undone_fault lists looks reads lacks refuses told options before (record {
       paths = decided.paths;
       loaded = decided.loaded;
       passed = run.passed;
@@ -65,6 +67,7 @@ returns-in_err-write_report-clause-fault g c =
     let lists = g.D.WorkDir.lists c.args.dir.now in
     let looks = g.D.WorkDir.looks c.args.dir.now in
     let reads = g.D.WorkDir.reads c.args.dir.now in
+    let lacks = g.D.WorkDir.lacks c.args.dir.now in
     let refuses = g.D.WorkDir.refuses c.args.dir.now in
     let told : List ℕ → ErrorKind → Type 0 = λ path kind. (d : g.row.D.Denot) × g.D.WorkDir.refuses d path kind in
     let options = c.args.options.now in

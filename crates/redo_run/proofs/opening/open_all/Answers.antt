@@ -11,7 +11,7 @@ returns-clause-opened g c =
     let dir = c.args.dir.now in
     let wanted : Wanted = record { all = true; paths = c.new.result } in
     opened_all (g.D.WorkDir.lists dir) (g.D.WorkDir.looks dir) (g.D.WorkDir.reads dir) (g.D.WorkDir.refuses dir)
-    (wants wanted) c.in_ok-tree.tree c.args.names.now.passed c.in_ok-open_over.field-0
+    (g.D.WorkDir.lacks dir) (wants wanted) c.in_ok-tree.tree c.args.names.now.passed c.in_ok-open_over.field-0
     c.in_ok-tree.ensures.loaded c.in_ok-tree.ensures.own c.in_ok-open_over.ensures.opened
     (λ p. refl)
 
