@@ -15,7 +15,7 @@ use crate::taking::{options_for, options_of, say_taken};
 use crate::unseen::Unseen;
 use crate::{buffered, flush, lock};
 use redo_bundle::Plain;
-use redo_dir::{Lockable, SystemDir};
+use redo_dir::{Lockable, SystemDir, SystemView};
 use redo_lenient::LenientDir;
 use redo_line::{BuildOptions, Format, Input, Storing, Voice};
 use redo_path::Path;
@@ -248,7 +248,7 @@ where
     requires permit { AllowsRounds host.old.permit }
 {
     if build.storing == Storing::Nothing {
-        let dir = LenientDir::new(host.alloc(), SystemDir::new(host.rt, host.alloc(), dir));
+        let dir = LenientDir::new(host.alloc(), SystemView::new(host.rt, dir));
         let options = options_for(host, &dir, build, cause)?;
         let run = preview_dir(host, &dir, writer, &options, cause)?;
         let unseen = Unseen::of(host.alloc(), &dir, run.passed);
@@ -257,7 +257,7 @@ where
     }
     let lock = lock(host.rt, host.alloc(), dir, cause)?;
     let synced = build.storing == Storing::Synced;
-    let dir = SystemDir::locked(host.rt, host.alloc(), dir, &lock, synced);
+    let dir = SystemDir::locked(host.rt, host.alloc(), &lock, synced);
     let mut dir = LenientDir::new(host.alloc(), dir);
     let options = options_for(host, &dir, build, cause)?;
     let run = run_dir(host, &mut dir, writer, &options, cause)?;

@@ -5,7 +5,7 @@ use crate::status::Fault;
 use crate::unseen::Unseen;
 use redo_bundle::{Plain, write_all};
 use redo_clean::{CleanFault, CleanPlan, clean, cleaned_text, plan, planned_text};
-use redo_dir::{Lockable, StoreFault, SystemDir, WorkDir};
+use redo_dir::{DirView, Lockable, StoreFault, SystemDir, SystemView, WorkDir};
 use redo_lenient::LenientDir;
 use redo_line::{Cleaning, Voice};
 use redo_run::{Cause, Opened, Said, open_dir};
@@ -15,16 +15,13 @@ use std::rt::Runtime;
 use std::thread::Threads;
 
 /// Plans a clean of a directory, which `workers` threads read. Returns the plan, and how many names were passed over.
-fn plan_of<H: Runtime + Threads + Sync, D: WorkDir + Sync>(
+fn plan_of<H: Runtime + Threads + Sync, D: DirView + Sync>(
     rt: &H,
     alloc: Global,
     dir: &D,
     workers: usize,
     cause: &mut Cause,
-) -> Result<(CleanPlan, u64), Fault>
-where
-    D::Draft: Send,
-{
+) -> Result<(CleanPlan, u64), Fault> {
     let Opened {
         past,
         left,
@@ -79,7 +76,7 @@ where
     H::File: Send + Lockable,
     H::Dir: Send,
 {
-    let dir = LenientDir::new(alloc, SystemDir::new(rt, alloc, &cleaning.dir));
+    let dir = LenientDir::new(alloc, SystemView::new(rt, &cleaning.dir));
     let (plan, passed) = plan_of(rt, alloc, &dir, cleaning.workers, cause)?;
     print(rt, &planned_text(alloc, &plan)?)?;
     Ok(Unseen::of(alloc, &dir, passed))
@@ -92,10 +89,7 @@ fn clean_by<D: WorkDir + Sync, H: Runtime + Threads + Sync>(
     dir: &mut D,
     workers: usize,
     cause: &mut Cause,
-) -> Result<u64, Fault>
-where
-    D::Draft: Send,
-{
+) -> Result<u64, Fault> {
     let (plan, passed) = plan_of(rt, alloc, dir, workers, cause)?;
     clean_by_plan(rt, alloc, dir, &plan, cause)?;
     Ok(passed)
@@ -113,7 +107,7 @@ where
     H::Dir: Send,
 {
     let lock = lock(rt, alloc, &cleaning.dir, cause)?;
-    let dir = SystemDir::locked(rt, alloc, &cleaning.dir, &lock, false);
+    let dir = SystemDir::locked(rt, alloc, &lock, false);
     let mut dir = LenientDir::new(alloc, dir);
     let passed = clean_by(rt, alloc, &mut dir, cleaning.workers, cause)?;
     Ok(Unseen::of(alloc, &dir, passed))

@@ -82,7 +82,7 @@ where
     let (rt, alloc) = (host.rt, host.alloc());
     let lock = lock(rt, alloc, dir, cause)?;
     let Tried { plan, unseen } = try_out(host, build, cause)?;
-    let mut dir = SystemDir::locked(rt, alloc, dir, &lock, false);
+    let mut dir = SystemDir::locked(rt, alloc, &lock, false);
     clean_by_plan(rt, alloc, &mut dir, &plan, cause)?;
     Ok(unseen)
 }

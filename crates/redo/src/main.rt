@@ -34,7 +34,7 @@ use formats::tells_run;
 use progress::Progress;
 use redo_bundle::Plain;
 use redo_core::permit::Permit;
-use redo_dir::{DirLock, LockFault, Lockable, SystemDir, lock_dir};
+use redo_dir::{DirLock, LockFault, Lockable, SystemView, lock_dir};
 use redo_lenient::LenientDir;
 use redo_line::{Action, BuildOptions, Call, Dead, Input, Voice, read_call};
 use redo_path::Path;
@@ -147,12 +147,12 @@ where
 }
 
 /// Takes the lock of a directory. Where it can't be opened, the cause says why.
-pub(crate) fn lock<H: Runtime>(
+pub(crate) fn lock<'a, H: Runtime>(
     rt: &H,
     alloc: Global,
-    dir: &str,
+    dir: &'a str,
     cause: &mut Cause,
-) -> Result<DirLock<H::File>, Fault>
+) -> Result<DirLock<'a, H::File>, Fault>
 where
     H::File: Lockable,
 {
@@ -196,7 +196,7 @@ where
             Ok(whichdo_bundle(host.alloc(), &mut reader, &mut writer, target, cause)?)
         }
         Input::Directory(dir) => {
-            let dir = LenientDir::new(host.alloc(), SystemDir::new(host.rt, host.alloc(), dir));
+            let dir = LenientDir::new(host.alloc(), SystemView::new(host.rt, dir));
             let (found, passed) = whichdo_dir(host, &dir, &mut writer, target, cause)?;
             Unseen::of(host.alloc(), &dir, passed).note(host.rt, voice);
             Ok(found)

@@ -3,7 +3,7 @@
 use crate::status::Fault;
 use crate::unseen::Unseen;
 use redo_bundle::{Plain, read_bundle_by_line};
-use redo_dir::{SystemDir, WorkDir};
+use redo_dir::{DirView, SystemView};
 use redo_lenient::LenientDir;
 use redo_line::Input;
 use redo_past::Past;
@@ -14,16 +14,13 @@ use std::thread::Threads;
 
 /// Reads a directory with `workers` threads, and opens its past as a run would. Returns it, and how many names were
 /// passed over.
-pub(crate) fn past_in<H: Runtime + Threads + Sync, D: WorkDir + Sync>(
+pub(crate) fn past_in<H: Runtime + Threads + Sync, D: DirView + Sync>(
     rt: &H,
     alloc: Global,
     dir: &D,
     workers: usize,
     cause: &mut Cause,
-) -> Result<(Past, u64), Fault>
-where
-    D::Draft: Send,
-{
+) -> Result<(Past, u64), Fault> {
     let Opened { past, passed, .. } = open_dir(rt, alloc, dir, workers, cause)?;
     Ok((past, passed))
 }
@@ -47,7 +44,7 @@ where
             Ok((Past::open_by(rt, alloc, workers, tree)?, Unseen::nothing()))
         }
         Input::Directory(dir) => {
-            let dir = LenientDir::new(alloc, SystemDir::new(rt, alloc, dir));
+            let dir = LenientDir::new(alloc, SystemView::new(rt, dir));
             let (past, passed) = past_in(rt, alloc, &dir, workers, cause)?;
             Ok((past, Unseen::of(alloc, &dir, passed)))
         }

@@ -4,7 +4,7 @@ use crate::status::Fault;
 use crate::unseen::note_passed;
 use crate::{buffered, flush};
 use redo_bundle::Plain;
-use redo_dir::SystemDir;
+use redo_dir::SystemView;
 use redo_line::Packing;
 use redo_pack::{PackFault, pack};
 use redo_run::{Cause, load};
@@ -25,7 +25,7 @@ where
     H::File: Send,
     H::Dir: Send,
 {
-    let dir = SystemDir::new(rt, alloc, &packing.dir);
+    let dir = SystemView::new(rt, &packing.dir);
     let (tree, passed) = load(rt, alloc, &dir, packing.workers, cause)?;
     print(rt, alloc, &tree)?;
     note_passed(rt, passed);

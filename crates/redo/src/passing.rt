@@ -1,7 +1,7 @@
 //! The names that a run passed over.
 
 use bstr::BStr;
-use redo_dir::{Seen, SystemDir, WorkDir};
+use redo_dir::{DirView, Seen, SystemView};
 use redo_line::Voice;
 use redo_path::{Path, resolve};
 use redo_tree::{Entry, Kind, Tree};
@@ -28,7 +28,7 @@ enum Why {
 }
 
 /// Why a name in a directory was passed over, if it was.
-fn why_passed<D: WorkDir>(
+fn why_passed<D: DirView>(
     alloc: Global,
     dir: &D,
     tree: &Tree,
@@ -133,7 +133,7 @@ struct Walk<'a, H> {
 
 impl<'a, H: Runtime> Walk<'a, H> {
     /// Counts a name if it was passed over, and shows it if it is among the first.
-    fn note_name<D: WorkDir>(
+    fn note_name<D: DirView>(
         &self,
         dir: &D,
         above: &Path,
@@ -153,7 +153,7 @@ impl<'a, H: Runtime> Walk<'a, H> {
     }
 
     /// Does the same with each name of a directory.
-    fn note_names_in<D: WorkDir>(
+    fn note_names_in<D: DirView>(
         &self,
         dir: &D,
         above: &Path,
@@ -170,7 +170,7 @@ impl<'a, H: Runtime> Walk<'a, H> {
     }
 
     /// Does the same with each name in the tree's directories.
-    fn note_all<D: WorkDir>(&self, dir: &D, passed: &mut Passed) -> io::Result<()> {
+    fn note_all<D: DirView>(&self, dir: &D, passed: &mut Passed) -> io::Result<()> {
         for (above, entry) in self.tree.in_order(self.alloc)? {
             if matches!(entry, Entry::Directory) {
                 self.note_names_in(dir, above, passed)?;
@@ -196,7 +196,7 @@ impl<'a, H: Runtime> Walk<'a, H> {
 /// Shows the first names that were passed over when a tree was read, how many more there are, and what to do about
 /// links.
 fn say_names<H: Runtime>(walk: &Walk<'_, H>) -> io::Result<()> {
-    let dir = SystemDir::new(walk.rt, walk.alloc, walk.top);
+    let dir = SystemView::new(walk.rt, walk.top);
     let mut passed = Passed {
         count: 0,
         has_link: false,

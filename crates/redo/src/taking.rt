@@ -5,7 +5,7 @@ use crate::opening::past_in;
 use crate::progress::Progress;
 use crate::status::Fault;
 use redo_diagnose::shown_lines;
-use redo_dir::WorkDir;
+use redo_dir::DirView;
 use redo_line::{BuildOptions, Storing};
 use redo_names::PathSet;
 use redo_notes::shadowed_within;
@@ -17,15 +17,12 @@ use std::rt::Runtime;
 use std::thread::Threads;
 
 /// The files that a build of this directory takes back.
-fn taken_in<H: Runtime + Threads + Sync, D: WorkDir + Sync>(
+fn taken_in<H: Runtime + Threads + Sync, D: DirView + Sync>(
     host: &Host<'_, H, Progress<'_>>,
     dir: &D,
     build: &BuildOptions,
     cause: &mut Cause,
-) -> Result<Vec<Path>, Fault>
-where
-    D::Draft: Send,
-{
+) -> Result<Vec<Path>, Fault> {
     let (rt, alloc, workers) = (host.rt, host.alloc(), build.workers);
     if build.take.is_empty() {
         return Ok(Vec::new(alloc));
@@ -35,15 +32,12 @@ where
 }
 
 /// The options of a build of this directory, with the files that it takes back.
-pub(crate) fn options_for<H: Runtime + Threads + Sync, D: WorkDir + Sync>(
+pub(crate) fn options_for<H: Runtime + Threads + Sync, D: DirView + Sync>(
     host: &Host<'_, H, Progress<'_>>,
     dir: &D,
     build: &BuildOptions,
     cause: &mut Cause,
-) -> Result<Options, Fault>
-where
-    D::Draft: Send,
-{
+) -> Result<Options, Fault> {
     let taken = taken_in(host, dir, build, cause)?;
     Ok(options_of(build, taken)?)
 }

@@ -1,7 +1,7 @@
 //! What wasn't seen of a directory.
 
 use bstr::BStr;
-use redo_dir::WorkDir;
+use redo_dir::DirView;
 use redo_lenient::LenientDir;
 use redo_line::Voice;
 use redo_path::Path;
@@ -20,7 +20,7 @@ pub(crate) struct Unseen {
 /// What is said of directories that were taken for empty.
 fn words_of<D>(alloc: Global, first: &Path, dir: &LenientDir<D>) -> Result<String, AllocError>
 where
-    D: WorkDir,
+    D: DirView,
 {
     let path = BStr::new(first.text());
     let more = if dir.hides_more() {
@@ -34,7 +34,7 @@ where
 impl Unseen {
     /// What wasn't seen of a directory in which so many names were passed over. Where there is no memory for words, there
     /// are none.
-    pub(crate) fn of<D: WorkDir>(alloc: Global, dir: &LenientDir<D>, passed: u64) -> Unseen {
+    pub(crate) fn of<D: DirView>(alloc: Global, dir: &LenientDir<D>, passed: u64) -> Unseen {
         let hidden = match dir.hidden() {
             Some(first) => match words_of(alloc, first, dir) {
                 Ok(words) => Some(words),

@@ -13,7 +13,7 @@ ghost use Rattle.std.specs.declared.io.ErrorKind.TheVariants.{NotFound};
 use crate::fate::Fate;
 use crate::faults::CleanFault;
 use crate::planning::CleanPlan;
-use redo_dir::{Seen, WorkDir, clear};
+use redo_dir::{DirView, Seen, WorkDir, clear};
 use redo_path::Path;
 use redo_tree::Content;
 use redo_which::BOOK;
@@ -32,7 +32,7 @@ fn fate_unseen(kind: ErrorKind) -> Result<Fate, ErrorKind>
 }
 
 /// What is to become of a file that had this content and that was seen with this size.
-fn fate_of_seen<D: WorkDir>(
+fn fate_of_seen<D: DirView>(
     alloc: Global,
     dir: &D,
     path: &Path,
@@ -56,7 +56,7 @@ fn fate_of_seen<D: WorkDir>(
 }
 
 /// What is to become of a file that had this content, as it stands now.
-fn fate_of<D: WorkDir>(
+fn fate_of<D: DirView>(
     alloc: Global,
     dir: &D,
     path: &Path,

@@ -3,11 +3,13 @@ pub mod ClearLemmas
 pub mod EntryNameLemmas
 pub mod FailLemmas
 pub mod FrontLemmas
+pub mod GoneLemmas
 pub mod JournalLemmas
 pub mod LevelLemmas
 pub mod ListingLemmas
 pub mod LoadLemmas
 pub mod OwnLemmas
 pub mod ReadingLemmas
+pub mod RefusedLemmas
 pub mod TextLemmas
 pub mod WaitLemmas

@@ -1,5 +1,5 @@
 -- Directories whose names were waited for.
-use Rattle.std.proofs.Common.{◌≡◌, ◌≢◌, ◌∙◌, inl, inr, ℕ, true, List, [], ◌∷◌, ◌++◌, Option, Some, None, ap, map, refl, subst, sym}
+use Rattle.std.proofs.Common.{◌≡◌, ◌∙◌, inl, inr, ℕ, Bool, true, List, [], ◌∷◌, ◌++◌, Option, Some, None, ap, map, refl, subst, sym}
 use Rattle.std.proofs.lemmas.List.{map-append}
 use Rattle.std.specs.List.{AllByRecursion}
 use Rattle.std.specs.Prelude.{IfSome}
@@ -7,10 +7,8 @@ use Rattle.std.specs.Path.{path_join}
 use Rattle.std.specs.declared.io.ErrorKind.{ErrorKind}
 use Rattle.redo_path.proofs.PartLemmas.{AllByRecursion-append}
 use Rattle.redo_which.specs.Candidates.{book_path, journal_path}
-use Rattle.redo_dir.specs.declared.access.Access.{Access}
-use Rattle.redo_dir.specs.declared.access.Access.TheVariants.{Read, StoreSynced}
 use Rattle.redo_dir.specs.Stored.{Finishes, Step}
-use Rattle.redo_dir.specs.Called.{AreOnDisk, Call, Follows, HasDone, IsAmong, IsCovered, IsIdle, Keeps, Renames, Syncs, Wait, call_of, dir_put, is_waited_for}
+use Rattle.redo_dir.specs.Called.{AreOnDisk, Call, Follows, Found, HasDone, IsAmong, IsCovered, IsIdle, Keeps, Renames, Syncs, Wait, call_of, dir_put, is_waited_for}
 use Rattle.redo_dir.proofs.CallLemmas.{follows_both, follows_kept, told_idle, told_more}
 
 -- waits come to no step
@@ -32,16 +30,16 @@ wait_reaches places waits place answer on well = record {
 }
 
 -- directories were waited for, and no more
-pub told_waits : {C : Type 0} (after : C → List Call → Type 0) (top : List ℕ) (access : Access) (old mid new : C) (waits : List Wait) (steps same : List Step) → access ≢ Read → HasDone after top access old steps → Follows after old (map call_of waits) mid → Keeps after mid new → same ≡ steps → HasDone after top access new same
-told_waits after top access old mid new waits steps same writes h f k e =
-    told_idle after top access old new (map call_of waits) steps same writes h (follows_kept after old mid new (map call_of waits) f k) (inl (idle_waits waits)) e
+pub told_waits : {C F : Type 0} (after : C → List Call → Type 0) (stood : F → List ℕ → Found → Type 0) (top : List ℕ) (waits : Bool) (old mid new : C) (waited : List Wait) (steps same : List Step) → HasDone after stood top waits old steps → Follows after old (map call_of waited) mid → Keeps after mid new → same ≡ steps → HasDone after stood top waits new same
+told_waits after stood top waits old mid new waited steps same h f k e =
+    told_idle after stood top waits old new (map call_of waited) steps same h (follows_kept after old mid new (map call_of waited) f k) (inl (idle_waits waited)) e
 
 -- and then the journal became the book
-pub told_finish : {C : Type 0} (after : C → List Call → Type 0) (top : List ℕ) (access : Access) (old mid new : C) (places : List (List ℕ)) (waits : List Wait) (steps all : List Step) → access ≢ Read → HasDone after top access old steps → Follows after old (map call_of waits) mid → AreOnDisk places waits → (access ≡ StoreSynced → AllByRecursion (IsCovered top places) steps) → Follows after mid (Renames (path_join top journal_path) (path_join top book_path) ∷ []) new → all ≡ steps ++ Finishes ∷ [] → HasDone after top access new all
-told_finish after top access old mid new places waits steps all writes h f on covers r e =
+pub told_finish : {C F : Type 0} (after : C → List Call → Type 0) (stood : F → List ℕ → Found → Type 0) (top : List ℕ) (waits : Bool) (old mid new : C) (places : List (List ℕ)) (waited : List Wait) (steps all : List Step) → HasDone after stood top waits old steps → Follows after old (map call_of waited) mid → AreOnDisk places waited → (waits ≡ true → AllByRecursion (IsCovered top places) steps) → Follows after mid (Renames (path_join top journal_path) (path_join top book_path) ∷ []) new → all ≡ steps ++ Finishes ∷ [] → HasDone after stood top waits new all
+told_finish after stood top waits old mid new places waited steps all h f on covers r e =
     let renames = Renames (path_join top journal_path) (path_join top book_path) ∷ [] in
-    told_more after top access old new (map call_of waits ++ renames) steps (Finishes ∷ []) all writes h
-    (follows_both after old mid new (map call_of waits) renames f r) (places, waits, on, covers, refl) e
+    told_more after stood top waits old new (map call_of waited ++ renames) steps (Finishes ∷ []) all h
+    (follows_both after old mid new (map call_of waited) renames f r) (places, waited, on, covers, refl) e
 
 -- a place that is one of some is one of more
 among-more : (places more : List (List ℕ)) (place : List ℕ) → IsAmong places place → IsAmong (places ++ more) place

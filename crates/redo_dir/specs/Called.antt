@@ -1,14 +1,12 @@
 -- The calls of the system that changed something, and what they come to in a directory.
 use Rattle.std.specs.Prelude.{◌≡◌, ◌≢◌, ◌⊎◌, ℕ, Bool, true, false, List, [], ◌∷◌, ◌++◌, Option, Some, None, Result, Ok, Err, IfSome, map, take, zero, suc}
-use Rattle.std.specs.Fs.{IsDir, IsFile, file_type, metadata_len}
+use Rattle.std.specs.Fs.{IsDir, IsFile, file_type, metadata_len, metadata_mode}
 use Rattle.std.specs.List.{AllByRecursion}
 use Rattle.std.specs.Path.{path_join}
 use Rattle.std.specs.declared.fs.attrs.Metadata.{Metadata}
 use Rattle.std.specs.declared.io.ErrorKind.{ErrorKind}
 use Rattle.std.specs.declared.io.ErrorKind.TheVariants.{InvalidInput, NotFound, Unsupported}
 use Rattle.redo_path.specs.Names.{parent_of}
-use Rattle.redo_dir.specs.declared.access.Access.{Access}
-use Rattle.redo_dir.specs.declared.access.Access.TheVariants.{Read, StoreSynced}
 use Rattle.redo_dir.specs.declared.work_dir.Seen.{Seen}
 use Rattle.redo_dir.specs.declared.work_dir.Seen.TheVariants as seen
 use Rattle.redo_dir.specs.Stored.{Step, Finishes, Journals, Puts, Removes}
@@ -20,8 +18,9 @@ Found = Result Metadata ErrorKind
 
 -- a call that changes something or is made between two that do, with its answer; those without one were answered well
 pub data Call : Type 0 where
-  -- the new file at the first place, to which these bytes were written whole (and waited for, or not), got the second
-  Names : List ℕ → List ℕ → Bool → List ℕ → Call
+  -- the new file at the first place, to which these bytes were written whole (and waited for, or not), and which has this
+  -- mode (none: that with which it was made), got the second
+  Names : List ℕ → List ℕ → Bool → Option ℕ → List ℕ → Call
   -- the new file at this place, to which these bytes were written whole (and waited for, or not), is to stay there
   Stays : List ℕ → List ℕ → Bool → Call
   -- what was at the first place got the second
@@ -54,8 +53,21 @@ is_waited_for (Some Unsupported) = true
 is_waited_for (Some kind) = false
 
 -- whether a file was waited for before it gets this name: each in a run that waits, and in any run the book
-abbrev pub IsWaitedAs : Access → List ℕ → Bool → Type 0
-IsWaitedAs access path synced = (access ≡ StoreSynced → synced ≡ true) × (path ≡ book_path → synced ≡ true)
+abbrev pub IsWaitedAs : Bool → List ℕ → Bool → Type 0
+IsWaitedAs waits path synced = (waits ≡ true → synced ≡ true) × (path ≡ book_path → synced ≡ true)
+
+-- which places were looked at, with the answers
+abbrev pub Stood : Type 1
+Stood = List ℕ → Found → Type 0
+
+-- the mode of a file that takes the place of what was found: that of the file, if one was
+abbrev pub IsModeOf : Found → Option ℕ → Type 0
+IsModeOf (Ok about) mode = IsFile (file_type about) → mode ≡ Some (metadata_mode about)
+IsModeOf (Err kind) mode = kind ≡ NotFound
+
+-- a file with this mode may take this place: the place was looked at before
+abbrev pub IsReady : Stood → List ℕ → Option ℕ → Type 0
+IsReady stood place mode = (found : Found) × stood place found × IsModeOf found mode
 
 -- a directory whose names were waited for, with the answer
 abbrev pub Wait : Type 0
@@ -87,29 +99,31 @@ IsCovered top places step = IfSome (dir_put step) (λ dir. IsAmong places (path_
 
 -- calls that come to no step: looks and waits
 abbrev pub IsIdle : Call → Type 0
-IsIdle (Names from bytes synced to) = ⊥
+IsIdle (Names from bytes synced mode to) = ⊥
 IsIdle (Stays place bytes synced) = ⊥
 IsIdle (Renames from to) = ⊥
 IsIdle (Unlinks place) = ⊥
 IsIdle (Syncs place answer) = Unit {0}
 IsIdle (Finds place found) = Unit {0}
 
--- In the directory at top these calls are that step, behind those before it. A run that waits for its files makes the
--- journal the book once the names that it gave are on the disk.
-abbrev pub IsStep : List ℕ → Access → List Step → List Call → Step → Type 0
-IsStep top access before calls (Journals text) =
+-- In the directory at top these calls are that step, behind those before it. A file that takes another's place has its
+-- mode. A run that waits for its files makes the journal the book once the names that it gave are on the disk.
+abbrev pub IsStep : Stood → List ℕ → Bool → List Step → List Call → Step → Type 0
+IsStep stood top waits before calls (Journals text) =
     (answer : Option ErrorKind) × (is_waited_for answer ≡ true) ×
     (calls ≡ Stays (path_join top journal_path) text true ∷ Syncs (path_join top []) answer ∷ [])
-IsStep top access before calls (Puts path bytes true) =
-    (from : List ℕ) × (synced : Bool) × IsWaitedAs access path synced × (calls ≡ Names from bytes synced (path_join top path) ∷ [])
-IsStep top access before calls (Puts path bytes false) =
-    (from : List ℕ) × (synced : Bool) × IsWaitedAs access path synced × (found : Found) × IsFree found ×
-    (calls ≡ Finds (path_join top path) found ∷ Names from bytes synced (path_join top path) ∷ [])
-IsStep top access before calls Finishes =
-    (places : List (List ℕ)) × (waits : List Wait) × AreOnDisk places waits ×
-    (access ≡ StoreSynced → AllByRecursion (IsCovered top places) before) ×
-    (calls ≡ map call_of waits ++ Renames (path_join top journal_path) (path_join top book_path) ∷ [])
-IsStep top access before calls (Removes path) =
+IsStep stood top waits before calls (Puts path bytes true) =
+    (from : List ℕ) × (synced : Bool) × (mode : Option ℕ) × IsWaitedAs waits path synced × IsReady stood (path_join top path) mode ×
+    (calls ≡ Names from bytes synced mode (path_join top path) ∷ [])
+IsStep stood top waits before calls (Puts path bytes false) =
+    (from : List ℕ) × (synced : Bool) × (mode : Option ℕ) × IsWaitedAs waits path synced × IsReady stood (path_join top path) mode ×
+    (found : Found) × IsFree found ×
+    (calls ≡ Finds (path_join top path) found ∷ Names from bytes synced mode (path_join top path) ∷ [])
+IsStep stood top waits before calls Finishes =
+    (places : List (List ℕ)) × (waited : List Wait) × AreOnDisk places waited ×
+    (waits ≡ true → AllByRecursion (IsCovered top places) before) ×
+    (calls ≡ map call_of waited ++ Renames (path_join top journal_path) (path_join top book_path) ∷ [])
+IsStep stood top waits before calls (Removes path) =
     ((path ≢ journal_path) × (calls ≡ Unlinks (path_join top path) ∷ [])) ⊎
     ((answer : Option ErrorKind) × (is_waited_for answer ≡ true) × (path ≡ journal_path) ×
     (calls ≡ Syncs (path_join top []) answer ∷ Unlinks (path_join top path) ∷ []))
@@ -122,10 +136,10 @@ IsUndone top calls =
     (calls ≡ Stays (path_join top journal_path) text true ∷ Syncs (path_join top []) answer ∷ gone)
 
 -- calls that belong together, behind the steps before them, and the steps that they are: one or none
-abbrev pub IsPart : List ℕ → Access → List Step → List Call → List Step → Type 0
-IsPart top access before calls [] = AllByRecursion IsIdle calls ⊎ IsUndone top calls
-IsPart top access before calls (step ∷ []) = IsStep top access before calls step
-IsPart top access before calls (step ∷ more ∷ steps) = ⊥
+abbrev pub IsPart : Stood → List ℕ → Bool → List Step → List Call → List Step → Type 0
+IsPart stood top waits before calls [] = AllByRecursion IsIdle calls ⊎ IsUndone top calls
+IsPart stood top waits before calls (step ∷ []) = IsStep stood top waits before calls step
+IsPart stood top waits before calls (step ∷ more ∷ steps) = ⊥
 
 abbrev pub Part : Type 0
 Part = List Call × List Step
@@ -139,21 +153,22 @@ steps_in [] = []
 steps_in (p ∷ ps) = p.1 ++ steps_in ps
 
 -- these are parts, one behind another, behind the steps before them
-abbrev pub AreParts : List ℕ → Access → List Step → List Part → Type 0
-AreParts top access before [] = Unit {0}
-AreParts top access before (p ∷ ps) = IsPart top access before p.0 p.1 × AreParts top access (before ++ p.1) ps
+abbrev pub AreParts : Stood → List ℕ → Bool → List Step → List Part → Type 0
+AreParts stood top waits before [] = Unit {0}
+AreParts stood top waits before (p ∷ ps) = IsPart stood top waits before p.0 p.1 × AreParts stood top waits (before ++ p.1) ps
 
 -- in the directory at top, a log of calls comes to these steps, in this order
-pub record Does (top : List ℕ) (access : Access) (log : List Call) (steps : List Step) : Type 0 where
+pub record Does (stood : Stood) (top : List ℕ) (waits : Bool) (log : List Call) (steps : List Step) : Type 0 where
   pub parts : List Part
   pub calls : calls_in parts ≡ log
   pub done : steps_in parts ≡ steps
-  pub each : AreParts top access [] parts
+  pub each : AreParts stood top waits [] parts
 
--- What the system was called for so far comes to these steps; where the directory is read alone, nothing was.
-abbrev pub HasDone : {C : Type 0} → (C → List Call → Type 0) → List ℕ → Access → C → List Step → Type 0
-HasDone after top access calls steps =
-    ∥ ((log : List Call) × after calls log × (access ≡ Read → log ≡ []) × Does top access log steps) ∥₁
+-- What the system was called for so far comes to these steps, by a run that waits for its files or doesn't. What was looked
+-- at before a file took a place, each closed file tells.
+abbrev pub HasDone : {C F : Type 0} → (C → List Call → Type 0) → (F → List ℕ → Found → Type 0) → List ℕ → Bool → C → List Step → Type 0
+HasDone {C} {F} after stood top waits calls steps =
+    ∥ ((log : List Call) × after calls log × Does (λ place found. (file : F) × stood file place found) top waits log steps) ∥₁
 
 -- the bytes that are read of a file of this size; some file systems say 0 where they know none
 abbrev pub front_read : ℕ → List ℕ → List ℕ

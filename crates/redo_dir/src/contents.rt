@@ -6,7 +6,7 @@ ghost use Rattle.redo_dir.specs.Loaded.{found_at, found_in, refusal_at, wants};
 ghost use Rattle.redo_dir.specs.inside.Contents.{IsFilled, IsFilledAs, IsRefusal};
 
 use crate::looking::threads_for;
-use crate::work_dir::WorkDir;
+use crate::work_dir::DirView;
 use redo_names::PathSet;
 use redo_path::Path;
 use redo_tree::Content;
@@ -51,7 +51,7 @@ pub struct Place {
 
 /// The content of the file at a path that had `size` bytes when it was looked at. The thread that reads the bytes also
 /// makes the tree's content.
-fn read_at<D: WorkDir>(dir: &D, alloc: Global, path: &Path, size: u64) -> Result<Content, ErrorKind>
+fn read_at<D: DirView>(dir: &D, alloc: Global, path: &Path, size: u64) -> Result<Content, ErrorKind>
     ensures bytes { IfOk result (D.reads dir.now path.now size) }
     ensures refused { IfErr result (IsRefusal (D.refuses dir.now) path.now) }
 {
@@ -65,7 +65,7 @@ fn read_at<D: WorkDir>(dir: &D, alloc: Global, path: &Path, size: u64) -> Result
 }
 
 /// What is found at a path with a file of this size, or with a directory: the content of a file that is wanted.
-fn content_at<D: WorkDir>(
+fn content_at<D: DirView>(
     dir: &D,
     alloc: Global,
     path: &Path,
@@ -109,7 +109,7 @@ impl Place {
     }
 
     /// Reads the file anew, if it is one and is wanted.
-    fn fill<D: WorkDir>(&mut self, dir: &D, alloc: Global, wanted: &Wanted)
+    fn fill<D: DirView>(&mut self, dir: &D, alloc: Global, wanted: &Wanted)
         ensures found { found_at self.new ≡ found_at self.old }
         ensures filled { IsFilled (wants wanted.now) (D.reads dir.now) (D.refuses dir.now) self.new }
     {
@@ -118,15 +118,13 @@ impl Place {
 }
 
 /// Reads the files that are wanted, by no more threads than have enough to do, the caller's among them.
-pub(crate) fn fill_by<T: Threads + Sync, D: WorkDir + Sync>(
+pub(crate) fn fill_by<T: Threads + Sync, D: DirView + Sync>(
     rt: &T,
     dir: &D,
     alloc: Global,
     reading: Reading<'_>,
     places: &mut [Place],
 )
-where
-    D::Draft: Send,
     ensures found { found_in places.new ≡ found_in places.old }
     ensures filled { AllByRecursion
         (IsFilled (wants reading.entry.wanted.now) (D.reads dir.now) (D.refuses dir.now)) places.new }

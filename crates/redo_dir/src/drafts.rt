@@ -3,10 +3,10 @@
 ghost use Rattle.std.specs.Prelude.{◌≡◌, ◌++◌, ◌∷◌, ◌<◌, [], IfErr, IfOk, IsUtf8, List, OnErr, OnOk, ℕ};
 ghost use Rattle.std.specs.IoError.{error_kind};
 ghost use Rattle.std.specs.List.{AllByRecursion};
-ghost use Rattle.redo_dir.specs.inside.Batches.{Blames, IsWritten, MeansText, Names, asked, asked_of};
+ghost use Rattle.redo_dir.specs.inside.Batches.{Blames, GivesUpRest, IsGivenUp, IsWritten, MeansText, Names, asked, asked_of};
 
 use crate::unwritten::Unwritten;
-use crate::work_dir::{Drafted, WorkDir};
+use crate::work_dir::WorkDir;
 use redo_path::Path;
 use redo_tree::Content;
 use std::alloc::Global;
@@ -109,6 +109,7 @@ fn name<D: WorkDir>(dir: &mut D, draft: Draft<D::Draft>) -> Result<(), Unwritten
     ensures text { (path : List ℕ) → IsUtf8 path → MeansText result path }
     ensures stored { OnOk result (D.done dir.new ≡ D.done dir.old ++ asked_of draft ∷ []) }
     ensures kept { OnErr result (D.done dir.new ≡ D.done dir.old) }
+    ensures gone { OnErr result (IsGivenUp D.Draft.gone draft) }
     ensures refused { IfErr result (Blames (λ path kind. (d : D) × D.refuses d path kind) draft.path) }
 {
     let Draft { over, written, .. } = draft;
@@ -122,7 +123,9 @@ fn name<D: WorkDir>(dir: &mut D, draft: Draft<D::Draft>) -> Result<(), Unwritten
 }
 
 /// Removes one draft.
-fn discard<D: WorkDir>(dir: &D, draft: Draft<D::Draft>) {
+fn discard<D: WorkDir>(dir: &D, draft: Draft<D::Draft>)
+    ensures { IsGivenUp D.Draft.gone draft }
+{
     let Draft { written, .. } = draft;
     if let Ok(file) = written {
         dir.discard(file);
@@ -136,8 +139,9 @@ pub(crate) fn name_each<D: WorkDir>(
     drafts: Vec<Draft<D::Draft>>,
 ) -> Result<(), Unwritten>
     requires { AllByRecursion (IsWritten (λ path kind. (d : D) × D.refuses d path kind) D.Draft.drafted) drafts.items }
-    ensures { Names (λ path kind. (d : D) × D.refuses d path kind)
+    ensures names { Names (λ path kind. (d : D) × D.refuses d path kind)
         (D.done dir.old) (asked drafts.items) (D.done dir.new) result }
+    ensures gone { OnErr result (GivesUpRest D.Draft.gone (D.done dir.old) drafts.items (D.done dir.new)) }
 {
     let mut outcome = Ok(());
     'drafts: for draft in drafts {

@@ -11,7 +11,7 @@ use crate::LoadFault;
 use crate::contents::Place;
 use crate::looking::{Name, look_by};
 use crate::places::place_of;
-use crate::work_dir::{Seen, WorkDir};
+use crate::work_dir::{DirView, Seen};
 use redo_path::Path;
 use std::alloc::{AllocError, Global};
 use std::io::ErrorKind;
@@ -110,7 +110,7 @@ impl Walk {
     }
 
     /// Lists a directory, and keeps its names.
-    fn list_dir<D: WorkDir>(&mut self, work: &D, alloc: Global, dir: Path) -> Result<(), LoadFault>
+    fn list_dir<D: DirView>(&mut self, work: &D, alloc: Global, dir: Path) -> Result<(), LoadFault>
         ensures listed { OnOk result (ListsDir (D.lists work.now) (progress self.old) dir (progress self.new)) }
         ensures refused { IfErr result (IsRefusedBy (D.refuses work.now)) }
     {
@@ -124,7 +124,7 @@ impl Walk {
     }
 
     /// Lists the directories of a level.
-    fn list_level<D: WorkDir>(&mut self, work: &D, alloc: Global) -> Result<(), LoadFault>
+    fn list_level<D: DirView>(&mut self, work: &D, alloc: Global) -> Result<(), LoadFault>
         ensures listed { OnOk result (ListsLevel (D.lists work.now) (progress self.old) (progress self.new)) }
         ensures refused { IfErr result (IsRefusedBy (D.refuses work.now)) }
     {
@@ -194,15 +194,13 @@ impl Walk {
     }
 
     /// Has the names that were kept looked at, by at most N threads, and takes them in.
-    fn enter_level<T: Threads + Sync, D: WorkDir + Sync>(
+    fn enter_level<T: Threads + Sync, D: DirView + Sync>(
         &mut self,
         rt: &T,
         work: &D,
         alloc: Global,
         workers: usize,
     ) -> Result<(), LoadFault>
-    where
-        D::Draft: Send,
         ensures all { OnOk result (EntersNoted (D.looks work.now) (D.refuses work.now) (progress self.old) (progress self.new)) }
         ensures refused { IfErr result (IsRefusedBy (D.refuses work.now)) }
     {
@@ -221,14 +219,12 @@ impl Walk {
 ///
 /// A directory that others change meanwhile may be found as it never was. Where several places can't be looked at, the one
 /// that was listed first is told, however many threads look.
-pub fn list_names<T: Threads + Sync, D: WorkDir + Sync>(
+pub fn list_names<T: Threads + Sync, D: DirView + Sync>(
     rt: &T,
     dir: &D,
     alloc: Global,
     workers: usize,
 ) -> Result<Names, LoadFault>
-where
-    D::Draft: Send,
     ensures names { IfOk result (AreNamesIn (D.lists dir.now) (D.looks dir.now)) }
     ensures refused { IfErr result (IsRefusedBy (D.refuses dir.now)) }
 {

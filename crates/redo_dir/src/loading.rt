@@ -11,7 +11,7 @@ ghost use Rattle.redo_dir.specs.inside.Contents.{entry_of};
 use crate::LoadFault;
 use crate::contents::{Place, Reading, Wanted, fill_by};
 use crate::listing::{Names, list_names, refused};
-use crate::work_dir::WorkDir;
+use crate::work_dir::DirView;
 use redo_names::PathSet;
 use redo_path::Path;
 use redo_tree::{Content, Tree, TreeFault};
@@ -85,15 +85,13 @@ fn check_read(places: &[Place]) -> Result<(), LoadFault>
 }
 
 /// Reads the files that are wanted, and makes a tree of all that was found.
-fn tree_with<T: Threads + Sync, D: WorkDir + Sync>(
+fn tree_with<T: Threads + Sync, D: DirView + Sync>(
     rt: &T,
     dir: &D,
     alloc: Global,
     reading: Reading<'_>,
     places: &mut [Place],
 ) -> Result<Tree, LoadFault>
-where
-    D::Draft: Send,
     ensures found { found_in places.new ≡ found_in places.old }
     ensures loaded { (passed : ℕ) → IsListed (D.lists dir.now) (D.looks dir.now) (found_in places.old) passed →
         IfOk result (λ tree. IsLoaded (D.lists dir.now)
@@ -113,15 +111,13 @@ impl Names {
     /// found. Each other file is empty in it. Where several files can't be read, the one that was listed first is told.
     ///
     /// A file of any length is read, and its bytes are not copied.
-    pub fn load<T: Threads + Sync, D: WorkDir + Sync>(
+    pub fn load<T: Threads + Sync, D: DirView + Sync>(
         &mut self,
         rt: &T,
         dir: &D,
         alloc: Global,
         reading: Reading<'_>,
     ) -> Result<Tree, LoadFault>
-    where
-        D::Draft: Send,
         requires names { AreNamesIn (D.lists dir.now) (D.looks dir.now) self.old }
         ensures names { AreNamesIn (D.lists dir.now) (D.looks dir.now) self.new }
         ensures passed { self.new.passed ≡ self.old.passed }
@@ -137,14 +133,12 @@ impl Names {
 
 /// Reads a directory with all that is below it, by at most N threads: what [`list_names`] finds, with the contents of all
 /// files. Answers the tree and how many names were passed over.
-pub fn load_dir<T: Threads + Sync, D: WorkDir + Sync>(
+pub fn load_dir<T: Threads + Sync, D: DirView + Sync>(
     rt: &T,
     dir: &D,
     alloc: Global,
     workers: usize,
 ) -> Result<(Tree, u64), LoadFault>
-where
-    D::Draft: Send,
     ensures loaded { IfOk result (λ loaded.
         IsLoaded (D.lists dir.now) (Leads (D.looks dir.now) (D.reads dir.now)) loaded.0 loaded.1) }
     ensures text { IfOk result (λ loaded. HasTextPaths loaded.0) }
@@ -170,14 +164,12 @@ where
 
 /// The tree that [`load_dir`] reads, with each file empty: no file is opened, so that one which can't be read refuses
 /// nothing.
-pub fn load_names<T: Threads + Sync, D: WorkDir + Sync>(
+pub fn load_names<T: Threads + Sync, D: DirView + Sync>(
     rt: &T,
     dir: &D,
     alloc: Global,
     workers: usize,
 ) -> Result<(Tree, u64), LoadFault>
-where
-    D::Draft: Send,
     ensures named { IfOk result (λ loaded. HasNames (D.lists dir.now) (D.looks dir.now) loaded.0 loaded.1) }
     ensures text { IfOk result (λ loaded. HasTextPaths loaded.0) }
     ensures fault { IfErr result

@@ -68,23 +68,41 @@ impl Lockable for File {
 
 /// The lock of a directory. The system takes it back when it is dropped, and at any end of the process; it leaves no file.
 #[derive(Drop)]
-pub struct DirLock<F> {
+pub struct DirLock<'a, F> {
     /// The open directory.
     dir: F,
+    /// Where it is.
+    top: &'a str,
 }
 
-impl<F> Model for DirLock<F> {
-    ghost Value = { F };
+impl<'a, F> Model for DirLock<'a, F> {
+    ghost use Rattle.std.specs.Prelude.{List, ℕ};
 
-    ghost view = { λ l. l.dir };
+    ghost Value = { F × List ℕ };
+
+    ghost view = { λ l. (l.dir, l.top.now) };
+}
+
+impl<'a, F> DirLock<'a, F> {
+    /// Where the directory is.
+    pub fn top(&self) -> &'a str
+        ensures { result.now ≡ self.now.1 }
+    {
+        self.top
+    }
 }
 
 /// Takes the lock of a directory of the system. A directory whose file system refuses locks is not refused: a build there
 /// is as good as one before there were locks.
-pub fn lock_dir<R: Files>(rt: &R, alloc: Global, top: &str) -> Result<DirLock<R::File>, LockFault>
+pub fn lock_dir<'a, R: Files>(
+    rt: &R,
+    alloc: Global,
+    top: &'a str,
+) -> Result<DirLock<'a, R::File>, LockFault>
 where
     R::File: Lockable,
-    ensures taken { IfOk result (λ dir. R.File.asked dir false) }
+    ensures taken { IfOk result (λ lock. R.File.asked lock.0 false) }
+    ensures top { IfOk result (λ lock. lock.1 ≡ top.now) }
     ensures busy { IfErr result (λ fault. fault ≡ Busy → (dir : R.File) × R.File.asked dir true) }
 {
     // With a slash behind it only a directory is opened, and no pipe is waited for.
@@ -92,6 +110,6 @@ where
     let dir = fs::open(rt, place.as_path())?;
     match dir.try_lock() {
         Err(TryLockError::WouldBlock) => Err(LockFault::Busy),
-        Ok(()) | Err(TryLockError::Error(_)) => Ok(DirLock { dir }),
+        Ok(()) | Err(TryLockError::Error(_)) => Ok(DirLock { dir, top }),
     }
 }

@@ -4,7 +4,7 @@ ghost use Rattle.std.specs.List.{AllByRecursion};
 ghost use Rattle.std.specs.Prelude.{◌≡◌, ◌≤◌};
 ghost use Rattle.redo_dir.specs.inside.Levels.{IsLooked, KeepsPaths};
 
-use crate::work_dir::{Seen, WorkDir};
+use crate::work_dir::{DirView, Seen};
 use redo_path::Path;
 use std::alloc::Global;
 use std::io::ErrorKind;
@@ -43,7 +43,7 @@ impl Name {
 
     /// Finds out what the name leads to.
     #[tactic(auto, using(crate::proofs::LevelLemmas::looked_refused))]
-    fn look<D: WorkDir>(&mut self, dir: &D, alloc: Global)
+    fn look<D: DirView>(&mut self, dir: &D, alloc: Global)
         ensures path { self.new.path ≡ self.old.path }
         ensures looked { IsLooked (D.looks dir.now) (D.refuses dir.now) self.new }
     {
@@ -55,15 +55,13 @@ impl Name {
 }
 
 /// Looks at names, by at most N threads, the caller's among them, and by no more than have enough to do.
-pub(crate) fn look_by<T: Threads + Sync, D: WorkDir + Sync>(
+pub(crate) fn look_by<T: Threads + Sync, D: DirView + Sync>(
     rt: &T,
     dir: &D,
     alloc: Global,
     workers: usize,
     names: &mut [Name],
 )
-where
-    D::Draft: Send,
     ensures paths { KeepsPaths names.old names.new }
     ensures looked { AllByRecursion (IsLooked (D.looks dir.now) (D.refuses dir.now)) names.new }
 {

@@ -1,9 +1,13 @@
 //! New files of the system: made where nothing is, filled and closed.
 
-ghost use Rattle.std.specs.Prelude.{◌≡◌, [], IfOk, List, OnOk, false, ℕ};
+ghost use Rattle.std.specs.Prelude.{◌⊎◌, [], IfErr, IfOk, List, None, OnOk, Option, Some, false, option_map, ℕ};
+ghost use Rattle.std.specs.Fs.{permissions_mode};
+ghost use Rattle.std.specs.IoError.{error_kind};
 ghost use Rattle.std.specs.Path.{path_buf_bytes};
+ghost use Rattle.redo_dir.specs.Called.{Found, IsReady};
+ghost use Rattle.redo_dir.specs.Refused.{Failed};
 
-use crate::calls::{Calls, ClosedFile, NewFile};
+use crate::calls::{Calls, NewFile, ReadCalls};
 use std::fs::Permissions;
 use std::io;
 use std::io::ErrorKind;
@@ -20,10 +24,14 @@ pub(crate) struct NewContent<'a> {
 }
 
 /// Who may read, write and run the file at a place, if one stands there.
-pub(crate) fn permissions_at<C: Calls>(
+pub(crate) fn permissions_at<C: ReadCalls>(
     calls: &C,
     place: &PathBuf,
-) -> io::Result<Option<Permissions>> {
+) -> io::Result<Option<Permissions>>
+    ensures ready { IfOk result (λ permissions.
+        IsReady (C.stands calls.now) (path_buf_bytes place.now) (option_map permissions_mode permissions)) }
+    ensures refused { IfErr result (λ error. C.fails calls.now (path_buf_bytes place.now) (error_kind error)) }
+{
     match calls.look(place) {
         Ok(about) if about.is_file() => Ok(Some(about.permissions())),
         Ok(_) => Ok(None),
@@ -33,7 +41,10 @@ pub(crate) fn permissions_at<C: Calls>(
 }
 
 /// Gives a new file these permissions. Where it has them, the system isn't asked: some file systems know no others.
-fn permit<F: NewFile>(file: &F, permissions: Permissions) -> io::Result<()> {
+fn permit<F: NewFile>(file: &F, permissions: Permissions) -> io::Result<()>
+    ensures has { OnOk result (F.has file.now (Some (permissions_mode permissions))) }
+    ensures refused { IfErr result (λ error. F.fails file.now (error_kind error)) }
+{
     if file.permissions()? == permissions {
         return Ok(());
     }
@@ -45,6 +56,8 @@ fn fill<F: NewFile>(file: &mut F, new: NewContent<'_>) -> io::Result<()>
     ensures made { (place : List ℕ) → F.made file.old place → F.made file.new place }
     ensures holds { OnOk result ((place : List ℕ) →
         F.holds file.old place [] false → F.holds file.new place new.entry.bytes.now new.entry.synced) }
+    ensures has { OnOk result (F.has file.old None → F.has file.new (option_map permissions_mode new.entry.permissions)) }
+    ensures refused { IfErr result (λ error. F.fails file.new (error_kind error)) }
 {
     if let Some(permissions) = new.permissions {
         permit(file, permissions)?;
@@ -64,6 +77,11 @@ pub(crate) fn write_new<C: Calls>(
 ) -> io::Result<C::Closed>
     ensures made { IfOk result (λ file. C.Closed.made file (path_buf_bytes place.now)) }
     ensures holds { IfOk result (λ file. C.Closed.holds file (path_buf_bytes place.now) new.entry.bytes.now new.entry.synced) }
+    ensures has { IfOk result (λ file. C.Closed.has file (option_map permissions_mode new.entry.permissions)) }
+    ensures stood { IfOk result (λ file. (place : List ℕ) (found : Found) →
+        C.stands calls.now place found → C.Closed.stood file place found) }
+    ensures refused { IfErr result (λ error. C.fails calls.now (path_buf_bytes place.now) (error_kind error) ⊎
+        Failed C.Closed.made C.Closed.fails C.Closed.gone (path_buf_bytes place.now) (error_kind error)) }
 {
     let mut open = calls.create(place)?;
     let outcome = fill(&mut open, new);

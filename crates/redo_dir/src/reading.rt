@@ -5,8 +5,9 @@ ghost use Rattle.std.specs.Io.KnownBytes.{Consumes};
 ghost use Rattle.std.specs.IoError.{error_kind};
 ghost use Rattle.std.specs.Path.{path_buf_bytes};
 ghost use Rattle.redo_dir.specs.Called.{IsOpenedAs, IsStandingAs, IsToldAs};
+ghost use Rattle.redo_dir.specs.Refused.{IsRefusedAt};
 
-use crate::calls::Calls;
+use crate::calls::ReadCalls;
 use crate::work_dir::Seen;
 use std::alloc::Global;
 use std::fs::Metadata;
@@ -67,13 +68,15 @@ pub(crate) fn read_bytes<F: Read + Drop>(
 }
 
 /// The bytes of the file at a place, which had `size` of them when it was looked at. What it has grown by since isn't read.
-pub(crate) fn read_file<C: Calls>(
+pub(crate) fn read_file<C: ReadCalls>(
     calls: &C,
     alloc: Global,
     place: &PathBuf,
     size: u64,
 ) -> io::Result<Vec<u8>>
-    ensures { IfOk result (λ bytes. IsOpenedAs (C.opens calls.now) (path_buf_bytes place.now) size bytes.items) }
+    ensures bytes { IfOk result (λ bytes. IsOpenedAs (C.opens calls.now) (path_buf_bytes place.now) size bytes.items) }
+    ensures refused { IfErr result (λ error.
+        IsRefusedAt (C.fails calls.now) (C.opens calls.now) (path_buf_bytes place.now) (error_kind error)) }
 {
     read_bytes(alloc, calls.open(place)?, size as usize)
 }
@@ -92,9 +95,10 @@ fn seen_of(about: &Metadata) -> Seen
 }
 
 /// What a place leads to.
-pub(crate) fn look_at<C: Calls>(calls: &C, place: &PathBuf) -> io::Result<Seen>
+pub(crate) fn look_at<C: ReadCalls>(calls: &C, place: &PathBuf) -> io::Result<Seen>
     ensures seen { IfOk result (IsStandingAs (C.stands calls.now) (path_buf_bytes place.now)) }
     ensures missing { IfErr result (λ error. C.stands calls.now (path_buf_bytes place.now) (Err (error_kind error))) }
+    ensures refused { IfErr result (λ error. C.fails calls.now (path_buf_bytes place.now) (error_kind error)) }
 {
     let about = calls.look(place)?;
     Ok(seen_of(&about))

@@ -1,32 +1,31 @@
 //! A directory of the system, as a run works in it.
 
 ghost use Rattle.std.specs.Path.{path_buf_bytes, path_join, path_with_file_name};
-ghost use Rattle.std.specs.Prelude.{◌≡◌, ◌≢◌, ◌++◌, ◌∷◌, ◌<◌, [], Bool, IfErr, IfOk, OnErr, OnOk, false, map, option_copied, string_bytes, true, vec_capacity, vec_len};
+ghost use Rattle.std.specs.Prelude.{◌≡◌, ◌≢◌, ◌++◌, ◌∷◌, ◌<◌, [], IfErr, IfOk, OnErr, OnOk, Bool, Option, Some, false, map, option_copied, string_bytes, true, vec_capacity, vec_len, ℕ};
 ghost use Rattle.std.specs.IoError.{error_kind};
 ghost use Rattle.std.specs.List.{AllByRecursion};
-ghost use Rattle.std.specs.declared.io.ErrorKind.TheVariants.{NotFound};
-ghost use Rattle.redo_dir.specs.Called.{HasDone, IsCovered, IsWaitedAs, dir_put};
+ghost use Rattle.std.specs.declared.io.ErrorKind.{ErrorKind};
+ghost use Rattle.redo_dir.specs.Called.{HasDone, IsCovered, IsReady, IsWaitedAs, dir_put};
+ghost use Rattle.redo_dir.specs.Refused.{AnyFails, IsUnchanged, is_of_redo, is_of_redo_at_change};
 ghost use Rattle.redo_dir.specs.Stored.{Finishes, IsNamed, Journals, Puts, Removes, put_of, step_of, steps_of};
-ghost use Rattle.redo_dir.specs.declared.access.Access.TheVariants.{Read, StoreSynced};
 ghost use Rattle.redo_which.specs.Candidates.{book_path, journal_path};
 
-use crate::access::Access;
 use crate::calls::{Calls, ClosedFile};
 use crate::changes::Change;
 use crate::lock::DirLock;
 use crate::new_files::{NewContent, permissions_at, write_new};
 use crate::own::Tag;
-use crate::reading::{look_at, read_file};
 use crate::system_calls::SystemCalls;
+use crate::view::SystemView;
 use crate::waiting::{check_free, sync_each, sync_names};
-use crate::work_dir::{Drafted, Seen, WorkDir};
+use crate::work_dir::{DirView, Drafted, Seen, WorkDir};
 use redo_path::Path;
 use redo_tree::Content;
 use redo_which::{BOOK, JOURNAL};
 use std::alloc::{AllocError, Global};
 use std::io;
 use std::io::ErrorKind;
-use std::path::{Path as SystemPath, PathBuf};
+use std::path::PathBuf;
 use std::rt::Files;
 
 /// The names of the journal and of the book.
@@ -34,17 +33,16 @@ const JOURNAL_NAME: &str = ".redo-journal";
 
 const BOOK_NAME: &str = ".redo-book";
 
-/// A directory of the system. It may itself be a link; what is below it is never reached by one.
+/// A directory of the system that is changed.
 #[derive(Drop)]
 pub struct SystemDir<'a, C: Calls> {
-    calls: C,
-    /// Where the directory is.
-    top: &'a str,
-    access: Access,
+    view: SystemView<'a, C>,
+    /// Whether it waits until a file is on the disk before the file gets its name, and until the names are before it ends.
+    synced: bool,
     tag: Option<Tag>,
     done: Vec<Change>,
     // What is noted as done is what the calls of the system come to.
-    ghost told: { HasDone C.after top.now access calls (steps_of done.items) },
+    ghost told: { HasDone C.after C.Closed.stood view.top.now synced view.calls (steps_of done.items) },
 }
 
 /// A file of the system that was written under a temporary name.
@@ -52,9 +50,9 @@ pub struct SystemDir<'a, C: Calls> {
 pub struct SystemDraft<'a, F: ClosedFile + Drop> {
     path: Path,
     content: Content,
-    /// The directory that it is for, and what that may do.
+    /// The directory that it is for, and whether that waits for files.
     top: &'a str,
-    access: Access,
+    synced: bool,
     /// Where it is to be.
     place: PathBuf,
     /// Where it is, and its name there.
@@ -63,15 +61,19 @@ pub struct SystemDraft<'a, F: ClosedFile + Drop> {
     file: F,
     ghost placed: { path_buf_bytes place ≡ path_join top.now path },
     ghost made: { ∥ F.made file (path_buf_bytes beside) ∥₁ },
-    ghost written: { ∥ ((synced : Bool) × IsWaitedAs access path synced × F.holds file (path_buf_bytes beside) content synced) ∥₁ },
+    ghost written: { ∥ ((waited : Bool) × (mode : Option ℕ) × IsWaitedAs synced path waited × IsReady (F.stood file) (path_buf_bytes place) mode ×
+        F.holds file (path_buf_bytes beside) content waited × F.has file mode) ∥₁ },
 }
 
 impl<F: ClosedFile + Drop> Drafted for SystemDraft<'_, F> {
     ghost use Rattle.std.specs.Prelude.{string_bytes};
+    ghost use Rattle.std.specs.Path.{path_buf_bytes};
 
     ghost drafted = { λ d. (d.path, d.content) };
 
     ghost named = { λ d. string_bytes d.name };
+
+    ghost gone = { λ d. F.gone d.file (path_buf_bytes d.beside) };
 }
 
 /// Where the file with this temporary name is, beside a place.
@@ -110,100 +112,58 @@ fn is_last(last: Option<&[u8]>, dir: &[u8]) -> bool
 }
 
 impl<'a, R: Files> SystemDir<'a, SystemCalls<&'a R>> {
-    /// The directory at this path of the system, to be read alone.
-    pub fn new(rt: &'a R, alloc: Global, top: &'a str) -> SystemDir<'a, SystemCalls<&'a R>> {
-        SystemDir::with_access(SystemCalls::new(rt), alloc, top, Access::Read)
-    }
-
-    /// The directory at this path of the system, whose lock is held, to be read and written. If `synced`, each file is on
-    /// the disk before it gets its name.
+    /// The directory of this lock, which is held. If `synced`, each file is on the disk before it gets its name.
     pub fn locked(
         rt: &'a R,
         alloc: Global,
-        top: &'a str,
-        _lock: &'a DirLock<R::File>,
+        lock: &'a DirLock<'a, R::File>,
         synced: bool,
-    ) -> SystemDir<'a, SystemCalls<&'a R>> {
-        SystemDir::with_access(SystemCalls::new(rt), alloc, top, Access::storing(synced))
+    ) -> SystemDir<'a, SystemCalls<&'a R>>
+        ensures top { result.view.top.now ≡ lock.now.1 }
+        ensures synced { result.synced ≡ synced }
+    {
+        SystemDir::with_calls(SystemCalls::new(rt), alloc, lock.top(), synced)
     }
 }
 
 impl<'a, C: Calls> SystemDir<'a, C> {
-    fn with_access(calls: C, alloc: Global, top: &'a str, access: Access) -> SystemDir<'a, C>
+    fn with_calls(calls: C, alloc: Global, top: &'a str, synced: bool) -> SystemDir<'a, C>
         requires { C.after calls [] }
+        ensures top { result.view.top.now ≡ top.now }
+        ensures synced { result.synced ≡ synced }
     {
         SystemDir {
-            calls,
-            top,
-            access,
+            view: SystemView { calls, top },
+            synced,
             tag: None,
             done: Vec::new(alloc),
         }
     }
 
-    /// Refuses a change of a directory that is read alone.
-    fn check_writable(&self) -> io::Result<()>
-        ensures { OnOk result (self.now.access ≢ Read) }
-    {
-        match self.access {
-            Access::Read => Err(io::Error::from(ErrorKind::PermissionDenied)),
-            Access::Store | Access::StoreSynced => Ok(()),
-        }
-    }
-
-    /// Where the system has a file or a directory of this path of text.
-    fn top_place(&self, alloc: Global, text: &str) -> io::Result<PathBuf>
-        ensures { IfOk result (λ place. path_buf_bytes place ≡ path_join self.now.top.now text.now) }
-    {
-        Ok(SystemPath::new(self.top).join(alloc, text)?)
-    }
-
-    /// Where the system has a path of the tree. The place is made in one block.
-    fn place(&self, alloc: Global, path: &Path) -> io::Result<PathBuf>
-        ensures place { IfOk result (λ place. path_buf_bytes place ≡ path_join self.now.top.now path.now) }
-        ensures other { IfErr result (λ error. error_kind error ≢ NotFound) }
-    {
-        let Ok(text) = str::from_utf8(path.text()) else {
-            return Err(io::Error::from(ErrorKind::InvalidFilename));
-        };
-        let mut place = PathBuf::with_capacity(alloc, self.top.len() + text.len() + 2)?;
-        place.push(self.top)?;
-        place.push(text)?;
-        Ok(place)
-    }
-
     /// The name of the temporary file with this number.
     fn temporary_name(&self, alloc: Global, number: u64) -> io::Result<String>
-        ensures { IfOk result (λ name. IsNamed self.now.tag number (string_bytes name)) }
+        ensures name { IfOk result (λ name. IsNamed self.now.tag number (string_bytes name)) }
+        ensures own { IfErr result (λ error. is_of_redo_at_change (error_kind error) ≡ true) }
     {
         match &self.tag {
             Some(tag) => Ok(tag.name(alloc, number)?),
-            None => Err(io::Error::from(ErrorKind::PermissionDenied)),
+            None => Err(io::Error::from(ErrorKind::InvalidInput)),
         }
     }
 
     /// Whether a file is waited for until it is on the disk before it gets this name.
     fn waits_for(&self, path: &Path) -> bool
-        ensures { IsWaitedAs self.now.access path.now result }
+        ensures { IsWaitedAs self.now.synced path.now result }
     {
         // A book that was recovered is the only one once the journal is gone.
-        self.access == Access::StoreSynced || path.text() == BOOK
-    }
-
-    /// Where the system has a directory of the tree.
-    fn dir_place(&self, alloc: Global, dir: &[u8]) -> io::Result<PathBuf>
-        ensures { IfOk result (λ place. path_buf_bytes place ≡ path_join self.now.top.now dir.now) }
-    {
-        let Ok(text) = str::from_utf8(dir) else {
-            return Err(io::Error::from(ErrorKind::InvalidFilename));
-        };
-        self.top_place(alloc, text)
+        self.synced || path.text() == BOOK
     }
 
     /// The places of the directories of all files that were put.
     fn dirs_of_puts(&self, alloc: Global) -> io::Result<Vec<PathBuf>>
-        ensures { IfOk result (λ places.
-            AllByRecursion (IsCovered self.now.top.now (map path_buf_bytes places.items)) (steps_of self.now.done.items)) }
+        ensures covered { IfOk result (λ places.
+            AllByRecursion (IsCovered self.now.view.top.now (map path_buf_bytes places.items)) (steps_of self.now.done.items)) }
+        ensures own { IfErr result (λ error. is_of_redo (error_kind error) ≡ true) }
     {
         let mut places = Vec::new(alloc);
         let mut last = None;
@@ -215,7 +175,7 @@ impl<'a, C: Calls> SystemDir<'a, C> {
             if is_last(last, dir) {
                 continue;
             }
-            places.push(self.dir_place(alloc, dir)?)?;
+            places.push(self.view.dir_place(alloc, dir)?)?;
             last = Some(dir);
         }
         Ok(places)
@@ -223,10 +183,11 @@ impl<'a, C: Calls> SystemDir<'a, C> {
 
     /// The places of the directories whose names are waited for before the run ends.
     fn waits_at_end(&self, alloc: Global) -> io::Result<Vec<PathBuf>>
-        ensures { IfOk result (λ places. self.now.access ≡ StoreSynced →
-            AllByRecursion (IsCovered self.now.top.now (map path_buf_bytes places.items)) (steps_of self.now.done.items)) }
+        ensures covered { IfOk result (λ places. self.now.synced ≡ true →
+            AllByRecursion (IsCovered self.now.view.top.now (map path_buf_bytes places.items)) (steps_of self.now.done.items)) }
+        ensures own { IfErr result (λ error. is_of_redo (error_kind error) ≡ true) }
     {
-        if self.access != Access::StoreSynced {
+        if !self.synced {
             return Ok(Vec::new(alloc));
         }
         self.dirs_of_puts(alloc)
@@ -236,8 +197,8 @@ impl<'a, C: Calls> SystemDir<'a, C> {
     fn make_room(&mut self) -> Result<(), AllocError>
         ensures room { OnOk result (vec_len self.new.done < vec_capacity self.new.done) }
         ensures done { steps_of self.new.done.items ≡ steps_of self.old.done.items }
-        ensures top { self.new.top ≡ self.old.top }
-        ensures access { self.new.access ≡ self.old.access }
+        ensures top { self.new.view.top.now ≡ self.old.view.top.now }
+        ensures synced { self.new.synced ≡ self.old.synced }
         ensures tag { self.new.tag ≡ self.old.tag }
     {
         self.done.reserve(1)
@@ -245,52 +206,55 @@ impl<'a, C: Calls> SystemDir<'a, C> {
 
     /// Takes a name away, and notes that.
     fn take_away(&mut self, place: &PathBuf, path: &Path) -> io::Result<()>
-        requires place { path_buf_bytes place.now ≡ path_join self.old.top.now path.now }
+        requires place { path_buf_bytes place.now ≡ path_join self.old.view.top.now path.now }
         requires other { path.now ≢ journal_path }
-        requires writable { self.old.access ≢ Read }
         ensures removed { OnOk result (steps_of self.new.done.items ≡ steps_of self.old.done.items ++ Removes path.now ∷ []) }
         ensures kept { OnErr result (steps_of self.new.done.items ≡ steps_of self.old.done.items) }
         ensures tag { self.new.tag ≡ self.old.tag }
+        ensures refused { IfErr result (λ error. IsUnchanged (AnyFails C.fails C.Closed.made C.Closed.fails C.Closed.gone)
+            self.old.view.top.now path.now (error_kind error)) }
     {
         let change = Change::Remove(path.clone()?);
         self.done.reserve(1)?;
-        self.calls.unlink(place)?;
+        self.view.calls.unlink(place)?;
         note(&mut self.done, change);
         Ok(())
     }
 
     /// Takes the journal away, and notes that. The book that was recovered by it has its name on the disk before.
     fn take_journal_away(&mut self, place: &PathBuf, top: &PathBuf, path: &Path) -> io::Result<()>
-        requires place { path_buf_bytes place.now ≡ path_join self.old.top.now path.now }
-        requires top { path_buf_bytes top.now ≡ path_join self.old.top.now [] }
+        requires place { path_buf_bytes place.now ≡ path_join self.old.view.top.now path.now }
+        requires top { path_buf_bytes top.now ≡ path_join self.old.view.top.now [] }
         requires journal { path.now ≡ journal_path }
-        requires writable { self.old.access ≢ Read }
         ensures removed { OnOk result (steps_of self.new.done.items ≡ steps_of self.old.done.items ++ Removes path.now ∷ []) }
         ensures kept { OnErr result (steps_of self.new.done.items ≡ steps_of self.old.done.items) }
         ensures tag { self.new.tag ≡ self.old.tag }
+        ensures refused { IfErr result (λ error. IsUnchanged (AnyFails C.fails C.Closed.made C.Closed.fails C.Closed.gone)
+            self.old.view.top.now path.now (error_kind error)) }
     {
         let change = Change::Remove(path.clone()?);
         self.done.reserve(1)?;
-        sync_names(&mut self.calls, top)?;
-        self.calls.unlink(place)?;
+        sync_names(&mut self.view.calls, top)?;
+        self.view.calls.unlink(place)?;
         note(&mut self.done, change);
         Ok(())
     }
 
     /// Makes the journal the book once the names in these directories are on the disk, and notes that.
     fn take_over(&mut self, dirs: &[PathBuf], journal: &PathBuf, book: &PathBuf) -> io::Result<()>
-        requires dirs { self.old.access ≡ StoreSynced →
-            AllByRecursion (IsCovered self.old.top.now (map path_buf_bytes dirs.now)) (steps_of self.old.done.items) }
-        requires journal { path_buf_bytes journal.now ≡ path_join self.old.top.now journal_path }
-        requires book { path_buf_bytes book.now ≡ path_join self.old.top.now book_path }
-        requires writable { self.old.access ≢ Read }
+        requires dirs { self.old.synced ≡ true →
+            AllByRecursion (IsCovered self.old.view.top.now (map path_buf_bytes dirs.now)) (steps_of self.old.done.items) }
+        requires journal { path_buf_bytes journal.now ≡ path_join self.old.view.top.now journal_path }
+        requires book { path_buf_bytes book.now ≡ path_join self.old.view.top.now book_path }
         ensures finished { OnOk result (steps_of self.new.done.items ≡ steps_of self.old.done.items ++ Finishes ∷ []) }
         ensures kept { OnErr result (steps_of self.new.done.items ≡ steps_of self.old.done.items) }
         ensures tag { self.new.tag ≡ self.old.tag }
+        ensures refused { IfErr result (λ error. IsUnchanged (AnyFails C.fails C.Closed.made C.Closed.fails C.Closed.gone)
+            self.old.view.top.now book_path (error_kind error)) }
     {
         self.done.reserve(1)?;
-        sync_each(&mut self.calls, dirs)?;
-        self.calls.rename(journal, book)?;
+        sync_each(&mut self.view.calls, dirs)?;
+        self.view.calls.rename(journal, book)?;
         note(&mut self.done, Change::Finish);
         Ok(())
     }
@@ -305,15 +269,16 @@ impl<'a, C: Calls> SystemDir<'a, C> {
     ) -> io::Result<()>
         requires room { vec_len self.old.done < vec_capacity self.old.done }
         requires written { C.Closed.holds file.now (path_buf_bytes place.now) text true }
-        requires place { path_buf_bytes place.now ≡ path_join self.old.top.now journal_path }
-        requires top { path_buf_bytes top.now ≡ path_join self.old.top.now [] }
-        requires writable { self.old.access ≢ Read }
+        requires place { path_buf_bytes place.now ≡ path_join self.old.view.top.now journal_path }
+        requires top { path_buf_bytes top.now ≡ path_join self.old.view.top.now [] }
         ensures journal { OnOk result (steps_of self.new.done.items ≡ steps_of self.old.done.items ++ Journals text ∷ []) }
         ensures kept { OnErr result (steps_of self.new.done.items ≡ steps_of self.old.done.items) }
+        ensures refused { IfErr result (λ error. IsUnchanged (AnyFails C.fails C.Closed.made C.Closed.fails C.Closed.gone)
+            self.old.view.top.now journal_path (error_kind error)) }
     {
-        self.calls.keep(file, place);
-        if let Err(error) = sync_names(&mut self.calls, top) {
-            let _removed = self.calls.unlink(place);
+        self.view.calls.keep(file, place);
+        if let Err(error) = sync_names(&mut self.view.calls, top) {
+            let _removed = self.view.calls.unlink(place);
             return Err(error);
         }
         note(&mut self.done, Change::Journal(text));
@@ -322,36 +287,42 @@ impl<'a, C: Calls> SystemDir<'a, C> {
 
     /// Gives a draft its name, whatever has it, and notes that.
     fn name_over(&mut self, draft: &SystemDraft<'_, C::Closed>) -> io::Result<()>
-        requires top { draft.now.top.now ≡ self.old.top.now }
-        requires access { draft.now.access ≡ self.old.access }
-        requires writable { self.old.access ≢ Read }
+        requires top { draft.now.top.now ≡ self.old.view.top.now }
+        requires synced { draft.now.synced ≡ self.old.synced }
         ensures stored { OnOk result (steps_of self.new.done.items ≡
             steps_of self.old.done.items ++ Puts draft.now.path draft.now.content true ∷ []) }
         ensures kept { OnErr result (steps_of self.new.done.items ≡ steps_of self.old.done.items) }
         ensures tag { self.new.tag ≡ self.old.tag }
+        ensures refused { IfErr result (λ error. IsUnchanged (AnyFails C.fails C.Closed.made C.Closed.fails C.Closed.gone)
+            self.old.view.top.now draft.now.path (error_kind error)) }
     {
         let change = Change::Put(draft.path.clone()?, draft.content.clone()?, true);
         // So that no file gets a name that can't be noted.
         self.done.reserve(1)?;
-        self.calls.name(&draft.file, &draft.beside, &draft.place)?;
+        self.view
+            .calls
+            .name(&draft.file, &draft.beside, &draft.place)?;
         note(&mut self.done, change);
         Ok(())
     }
 
     /// Gives a draft its name where neither a file nor a directory has it, and notes that.
     fn name_new(&mut self, draft: &SystemDraft<'_, C::Closed>) -> io::Result<()>
-        requires top { draft.now.top.now ≡ self.old.top.now }
-        requires access { draft.now.access ≡ self.old.access }
-        requires writable { self.old.access ≢ Read }
+        requires top { draft.now.top.now ≡ self.old.view.top.now }
+        requires synced { draft.now.synced ≡ self.old.synced }
         ensures stored { OnOk result (steps_of self.new.done.items ≡
             steps_of self.old.done.items ++ Puts draft.now.path draft.now.content false ∷ []) }
         ensures kept { OnErr result (steps_of self.new.done.items ≡ steps_of self.old.done.items) }
         ensures tag { self.new.tag ≡ self.old.tag }
+        ensures refused { IfErr result (λ error. IsUnchanged (AnyFails C.fails C.Closed.made C.Closed.fails C.Closed.gone)
+            self.old.view.top.now draft.now.path (error_kind error)) }
     {
         let change = Change::Put(draft.path.clone()?, draft.content.clone()?, false);
         self.done.reserve(1)?;
-        check_free(&mut self.calls, &draft.place)?;
-        self.calls.name(&draft.file, &draft.beside, &draft.place)?;
+        check_free(&mut self.view.calls, &draft.place)?;
+        self.view
+            .calls
+            .name(&draft.file, &draft.beside, &draft.place)?;
         note(&mut self.done, change);
         Ok(())
     }
@@ -362,12 +333,13 @@ impl<'a, C: Calls> SystemDir<'a, C> {
             steps_of self.old.done.items ++ put_of (draft.now.path, draft.now.content) over ∷ []) }
         ensures kept { OnErr result (steps_of self.new.done.items ≡ steps_of self.old.done.items) }
         ensures tag { self.new.tag ≡ self.old.tag }
+        ensures refused { IfErr result (λ error. IsUnchanged (AnyFails C.fails C.Closed.made C.Closed.fails C.Closed.gone)
+            self.old.view.top.now draft.now.path (error_kind error)) }
     {
-        self.check_writable()?;
-        if draft.top != self.top {
+        if draft.top != self.view.top {
             return Err(io::Error::from(ErrorKind::InvalidInput));
         }
-        if draft.access != self.access {
+        if draft.synced != self.synced {
             return Err(io::Error::from(ErrorKind::InvalidInput));
         }
         if over {
@@ -378,22 +350,39 @@ impl<'a, C: Calls> SystemDir<'a, C> {
     }
 }
 
-impl<'a, C: Calls> WorkDir for SystemDir<'a, C> {
-    ghost use Rattle.std.specs.Prelude.{Err, option_map};
+impl<'a, C: Calls> DirView for SystemDir<'a, C> {
+    ghost use Rattle.std.specs.Prelude.{Err};
     ghost use Rattle.std.specs.Path.{path_join};
     ghost use Rattle.std.specs.declared.io.ErrorKind.TheVariants.{NotFound};
     ghost use Rattle.redo_dir.specs.Called.{IsOpenedAs, IsStandingAs};
+    ghost use Rattle.redo_dir.specs.Refused.{AnyFails, IsRefusedFor};
+
+    ghost lists = { λ d dir. C.lists d.view.calls (path_join d.view.top.now dir) };
+
+    ghost looks = { λ d path. IsStandingAs (C.stands d.view.calls) (path_join d.view.top.now path) };
+
+    ghost lacks = { λ d path. C.stands d.view.calls (path_join d.view.top.now path) (Err NotFound) };
+
+    ghost reads = { λ d path. IsOpenedAs (C.opens d.view.calls) (path_join d.view.top.now path) };
+
+    ghost refuses = { λ d. IsRefusedFor (C.fails d.view.calls) (C.opens d.view.calls)
+        (AnyFails C.fails C.Closed.made C.Closed.fails C.Closed.gone) d.view.top.now };
+
+    fn list(&self, alloc: Global, dir: &Path) -> io::Result<Vec<Option<String>>> {
+        self.view.list(alloc, dir)
+    }
+
+    fn look(&self, alloc: Global, path: &Path) -> io::Result<Seen> {
+        self.view.look(alloc, path)
+    }
+
+    fn read(&self, alloc: Global, path: &Path, size: u64) -> io::Result<Vec<u8>> {
+        self.view.read(alloc, path, size)
+    }
+}
+
+impl<'a, C: Calls> WorkDir for SystemDir<'a, C> {
     ghost use Rattle.redo_dir.specs.Stored.{steps_of};
-
-    ghost lists = { λ d dir. C.lists d.calls (path_join d.top.now dir) };
-
-    ghost looks = { λ d path. IsStandingAs (C.stands d.calls) (path_join d.top.now path) };
-
-    ghost lacks = { λ d path. C.stands d.calls (path_join d.top.now path) (Err NotFound) };
-
-    ghost reads = { λ d path. IsOpenedAs (C.opens d.calls) (path_join d.top.now path) };
-
-    ghost refuses = { λ _ _ _. Unit {0} };
 
     ghost done = { λ d. steps_of d.done.items };
 
@@ -401,35 +390,19 @@ impl<'a, C: Calls> WorkDir for SystemDir<'a, C> {
 
     type Draft = SystemDraft<'a, C::Closed>;
 
-    fn list(&self, alloc: Global, dir: &Path) -> io::Result<Vec<Option<String>>> {
-        let place = self.place(alloc, dir)?;
-        self.calls.list(alloc, &place)
-    }
-
-    fn look(&self, alloc: Global, path: &Path) -> io::Result<Seen> {
-        let place = self.place(alloc, path)?;
-        look_at(&self.calls, &place)
-    }
-
-    fn read(&self, alloc: Global, path: &Path, size: u64) -> io::Result<Vec<u8>> {
-        let place = self.place(alloc, path)?;
-        read_file(&self.calls, alloc, &place, size)
-    }
-
     fn journal(&mut self, alloc: Global, text: &Content) -> io::Result<()> {
-        self.check_writable()?;
-        let top = self.top_place(alloc, "")?;
-        let place = self.top_place(alloc, JOURNAL_NAME)?;
-        let book = self.top_place(alloc, BOOK_NAME)?;
+        let top = self.view.text_place(alloc, "")?;
+        let place = self.view.text_place(alloc, JOURNAL_NAME)?;
+        let book = self.view.text_place(alloc, BOOK_NAME)?;
         let kept = text.clone()?;
         let tag = Tag::of(alloc, text)?;
         self.make_room()?;
         let new = NewContent {
             bytes: text.bytes(),
-            permissions: permissions_at(&self.calls, &book)?,
+            permissions: permissions_at(&self.view.calls, &book)?,
             synced: true,
         };
-        let file = write_new(&self.calls, &place, new)?;
+        let file = write_new(&self.view.calls, &place, new)?;
         self.leave(&file, &place, &top, kept)?;
         self.tag = Some(tag);
         Ok(())
@@ -441,10 +414,9 @@ impl<'a, C: Calls> WorkDir for SystemDir<'a, C> {
     }
 
     fn finish(&mut self, alloc: Global) -> io::Result<()> {
-        self.check_writable()?;
         let dirs = self.waits_at_end(alloc)?;
-        let journal = self.top_place(alloc, JOURNAL_NAME)?;
-        let book = self.top_place(alloc, BOOK_NAME)?;
+        let journal = self.view.text_place(alloc, JOURNAL_NAME)?;
+        let book = self.view.text_place(alloc, BOOK_NAME)?;
         self.take_over(&dirs, &journal, &book)
     }
 
@@ -455,27 +427,26 @@ impl<'a, C: Calls> WorkDir for SystemDir<'a, C> {
         content: &Content,
         number: u64,
     ) -> io::Result<SystemDraft<'a, C::Closed>> {
-        self.check_writable()?;
         if path.text() == JOURNAL {
             return Err(io::Error::from(ErrorKind::InvalidFilename));
         }
-        let place = self.place(alloc, path)?;
+        let place = self.view.place(alloc, path)?;
         let name = self.temporary_name(alloc, number)?;
         let beside = place_beside(alloc, &place, &name)?;
         let synced = self.waits_for(path);
         let new = NewContent {
             bytes: content.bytes(),
-            permissions: permissions_at(&self.calls, &place)?,
+            permissions: permissions_at(&self.view.calls, &place)?,
             synced,
         };
         let path = path.clone()?;
         let kept = content.clone()?;
-        let file = write_new(&self.calls, &beside, new)?;
+        let file = write_new(&self.view.calls, &beside, new)?;
         Ok(SystemDraft {
             path,
             content: kept,
-            top: self.top,
-            access: self.access,
+            top: self.view.top,
+            synced: self.synced,
             place,
             beside,
             name,
@@ -486,16 +457,15 @@ impl<'a, C: Calls> WorkDir for SystemDir<'a, C> {
     fn put(&mut self, draft: SystemDraft<'a, C::Closed>, over: bool) -> io::Result<()> {
         let outcome = self.name(&draft, over);
         if outcome.is_err() {
-            let _removed = self.calls.discard(&draft.file, &draft.beside);
+            let _removed = self.view.calls.discard(&draft.file, &draft.beside);
         }
         outcome
     }
 
     fn remove(&mut self, alloc: Global, path: &Path) -> io::Result<()> {
-        self.check_writable()?;
-        let place = self.place(alloc, path)?;
+        let place = self.view.place(alloc, path)?;
         if path.text() == JOURNAL {
-            let top = self.top_place(alloc, "")?;
+            let top = self.view.text_place(alloc, "")?;
             return self.take_journal_away(&place, &top, path);
         }
         self.take_away(&place, path)
@@ -506,6 +476,6 @@ impl<'a, C: Calls> WorkDir for SystemDir<'a, C> {
     }
 
     fn discard(&self, draft: SystemDraft<'a, C::Closed>) {
-        let _removed = self.calls.discard(&draft.file, &draft.beside);
+        let _removed = self.view.calls.discard(&draft.file, &draft.beside);
     }
 }

@@ -1,6 +1,6 @@
 //! The calls of the system, passed through. What stands here isn't proved: no contract knows what the system does.
 
-use crate::calls::{Calls, ClosedFile, NewFile};
+use crate::calls::{Calls, ClosedFile, NewFile, ReadCalls};
 use std::alloc::Global;
 use std::fs::{DirEntry, File, Metadata, OpenFile, Permissions};
 use std::io::{ErrorKind, Write};
@@ -35,6 +35,10 @@ impl<F: OpenFile + Write + Drop> NewFile for SystemNew<F> {
 
     ghost holds = { λ _ _ _ _. Unit {0} };
 
+    ghost has = { λ _ _. Unit {0} };
+
+    ghost fails = { λ _ _. Unit {0} };
+
     fn permissions(&self) -> io::Result<Permissions> {
         Ok(self.file.metadata()?.permissions())
     }
@@ -56,6 +60,14 @@ impl ClosedFile for SystemClosed {
     ghost made = { λ _ _. Unit {0} };
 
     ghost holds = { λ _ _ _ _. Unit {0} };
+
+    ghost has = { λ _ _. Unit {0} };
+
+    ghost fails = { λ _ _. Unit {0} };
+
+    ghost stood = { λ _ _ _. Unit {0} };
+
+    ghost gone = { λ _ _. Unit {0} };
 }
 
 /// A name as it was listed, or none where it isn't text.
@@ -80,18 +92,14 @@ fn all_names<R: Files>(rt: &R, alloc: Global, place: &PathBuf) -> io::Result<Vec
     Ok(names)
 }
 
-impl<R: Files> Calls for SystemCalls<R> {
-    ghost after = { λ _ _. Unit {0} };
-
+impl<R: Files> ReadCalls for SystemCalls<R> {
     ghost stands = { λ _ _ _. Unit {0} };
 
     ghost opens = { λ _ _ _. Unit {0} };
 
     ghost lists = { λ _ _ _. Unit {0} };
 
-    type New = SystemNew<R::File>;
-
-    type Closed = SystemClosed;
+    ghost fails = { λ _ _ _. Unit {0} };
 
     type Source = R::File;
 
@@ -106,6 +114,14 @@ impl<R: Files> Calls for SystemCalls<R> {
     fn open(&self, place: &PathBuf) -> io::Result<R::File> {
         fs::open(&self.rt, place.as_path())
     }
+}
+
+impl<R: Files> Calls for SystemCalls<R> {
+    ghost after = { λ _ _. Unit {0} };
+
+    type New = SystemNew<R::File>;
+
+    type Closed = SystemClosed;
 
     fn create(&self, place: &PathBuf) -> io::Result<SystemNew<R::File>> {
         Ok(SystemNew {

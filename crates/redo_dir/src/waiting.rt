@@ -1,9 +1,10 @@
 //! What is asked between two changes: whether a place is free, and whether names are on the disk.
 
-ghost use Rattle.std.specs.Prelude.{◌≡◌, ◌∷◌, [], List, Option, OnOk, is_ok, map};
+ghost use Rattle.std.specs.Prelude.{◌≡◌, ◌⊎◌, ◌∷◌, [], Err, IfErr, List, Option, OnOk, Some, is_ok, map, ℕ};
 ghost use Rattle.std.specs.IoError.{error_kind};
 ghost use Rattle.std.specs.Path.{path_buf_bytes};
 ghost use Rattle.std.specs.declared.io.ErrorKind.{ErrorKind};
+ghost use Rattle.std.specs.declared.io.ErrorKind.TheVariants.{AlreadyExists};
 ghost use Rattle.redo_dir.specs.Called.{AreOnDisk, Finds, Follows, Found, IsFree, Syncs, Wait, answer_of, call_of, found_of, is_waited_for};
 
 use crate::calls::Calls;
@@ -14,7 +15,8 @@ use std::path::PathBuf;
 
 /// Refuses a place that was found to have a file or a directory.
 fn free_found(found: io::Result<Metadata>) -> io::Result<()>
-    ensures { OnOk result (IsFree (found_of error_kind found)) }
+    ensures free { OnOk result (IsFree (found_of error_kind found)) }
+    ensures refused { IfErr result (λ error. (error_kind error ≡ AlreadyExists) ⊎ (found_of error_kind found ≡ Err (error_kind error))) }
 {
     match found {
         Ok(about) => {
@@ -32,8 +34,10 @@ fn free_found(found: io::Result<Metadata>) -> io::Result<()>
 
 /// Refuses a place where a file or a directory stands.
 pub(crate) fn check_free<C: Calls>(calls: &mut C, place: &PathBuf) -> io::Result<()>
-    ensures { (found : Found) × Follows C.after calls.old (Finds (path_buf_bytes place.now) found ∷ []) calls.new ×
+    ensures found { (found : Found) × Follows C.after calls.old (Finds (path_buf_bytes place.now) found ∷ []) calls.new ×
         OnOk result (IsFree found) }
+    ensures refused { IfErr result (λ error.
+        (error_kind error ≡ AlreadyExists) ⊎ C.fails calls.new (path_buf_bytes place.now) (error_kind error)) }
 {
     let found = calls.find(place);
     free_found(found)
@@ -41,7 +45,8 @@ pub(crate) fn check_free<C: Calls>(calls: &mut C, place: &PathBuf) -> io::Result
 
 /// A file system that can't be asked to wait for names is taken at its word.
 fn waited(answer: io::Result<()>) -> io::Result<()>
-    ensures { is_ok result ≡ is_waited_for (answer_of error_kind answer) }
+    ensures waited { is_ok result ≡ is_waited_for (answer_of error_kind answer) }
+    ensures refused { IfErr result (λ error. answer_of error_kind answer ≡ Some (error_kind error)) }
 {
     match answer {
         Ok(()) => Ok(()),
@@ -54,8 +59,9 @@ fn waited(answer: io::Result<()>) -> io::Result<()>
 
 /// Waits until the names in a directory are on the disk.
 pub(crate) fn sync_names<C: Calls>(calls: &mut C, place: &PathBuf) -> io::Result<()>
-    ensures { (answer : Option ErrorKind) × Follows C.after calls.old (Syncs (path_buf_bytes place.now) answer ∷ []) calls.new ×
+    ensures waited { (answer : Option ErrorKind) × Follows C.after calls.old (Syncs (path_buf_bytes place.now) answer ∷ []) calls.new ×
         (is_ok result ≡ is_waited_for answer) }
+    ensures refused { IfErr result (λ error. C.fails calls.new (path_buf_bytes place.now) (error_kind error)) }
 {
     let answer = calls.sync_names(place);
     waited(answer)
@@ -63,8 +69,9 @@ pub(crate) fn sync_names<C: Calls>(calls: &mut C, place: &PathBuf) -> io::Result
 
 /// Waits until the names in these directories are on the disk.
 pub(crate) fn sync_each<C: Calls>(calls: &mut C, places: &[PathBuf]) -> io::Result<()>
-    ensures { (waits : List Wait) × Follows C.after calls.old (map call_of waits) calls.new ×
+    ensures waited { (waits : List Wait) × Follows C.after calls.old (map call_of waits) calls.new ×
         OnOk result (AreOnDisk (map path_buf_bytes places.now) waits) }
+    ensures refused { IfErr result (λ error. (place : List ℕ) × C.fails calls.new place (error_kind error)) }
 {
     for place in places {
         sync_names(calls, place)?;

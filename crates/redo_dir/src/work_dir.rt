@@ -29,21 +29,19 @@ pub trait Drafted {
     ghost drafted: { Self → List ℕ × List ℕ };
     // The name that it has until then, beside its path.
     ghost named: { Self → List ℕ };
+    // The file didn't get its path, and was asked to be removed.
+    ghost gone: { Self → Type 0 };
 }
 
-/// The directory that a run works in. A run reaches the file system by these calls alone: nothing else is listed, read,
-/// made, renamed or removed. Paths are those of the tree; the directory itself is the root.
+/// A directory that is looked at. What only looks reaches the file system by these calls alone, so that it changes
+/// nothing. Paths are those of the tree; the directory itself is the root.
 ///
-/// The ghost names keep what was asked and answered, so that contracts can speak of it. What the system does with a call
-/// that it answers well is known to no contract. [`SystemDir`](crate::SystemDir) asks the system.
-pub trait WorkDir {
+/// The ghost names keep what was asked and answered, so that contracts can speak of it.
+/// [`SystemView`](crate::SystemView) asks the system.
+pub trait DirView {
     ghost use Rattle.std.specs.Prelude.{List, Option, ℕ};
     ghost use Rattle.std.specs.declared.io.ErrorKind.{ErrorKind};
     ghost use Rattle.redo_dir.specs.declared.work_dir.Seen.{Seen};
-    ghost use Rattle.redo_dir.specs.Stored.{Step};
-
-    /// A file under a temporary name of the run's own, which was written whole and closed.
-    type Draft: Drafted + Drop;
 
     // A directory was listed, and these are its names; none stands for a name that isn't text.
     ghost lists: { Self → List ℕ → List (Option (List ℕ)) → Type 0 };
@@ -55,10 +53,6 @@ pub trait WorkDir {
     ghost reads: { Self → List ℕ → ℕ → List ℕ → Type 0 };
     // A call at a path was answered by this error.
     ghost refuses: { Self → List ℕ → ErrorKind → Type 0 };
-    // The calls that changed the directory, in this order.
-    ghost done: { Self → List Step };
-    // The text of the journal by which temporary files are named, once there is one.
-    ghost tagged: { Self → Option (List ℕ) };
 
     /// Lists a directory. The order is the system's.
     fn list(&self, alloc: Global, dir: &Path) -> io::Result<Vec<Option<String>>>
@@ -77,6 +71,24 @@ pub trait WorkDir {
     fn read(&self, alloc: Global, path: &Path, size: u64) -> io::Result<Vec<u8>>
         ensures answer { IfOk result (λ bytes. reads self.now path.now size bytes.items) }
         ensures refused { IfErr result (λ error. refuses self.now path.now (error_kind error)) };
+}
+
+/// The directory that a run works in. A run reaches the file system by these calls and those of [`DirView`] alone:
+/// nothing else is listed, read, made, renamed or removed.
+///
+/// What the system does with a call that it answers well is known to no contract. [`SystemDir`](crate::SystemDir) asks
+/// the system.
+pub trait WorkDir: DirView {
+    ghost use Rattle.std.specs.Prelude.{List, Option, ℕ};
+    ghost use Rattle.redo_dir.specs.Stored.{Step};
+
+    /// A file under a temporary name of the run's own, which was written whole and closed.
+    type Draft: Drafted + Drop;
+
+    // The calls that changed the directory, in this order.
+    ghost done: { Self → List Step };
+    // The text of the journal by which temporary files are named, once there is one.
+    ghost tagged: { Self → Option (List ℕ) };
 
     /// Writes the journal with this text, in its own place, and waits until it is on the disk. The error is
     /// `AlreadyExists` where something stands there. A run that is killed meanwhile may leave a beginning of it. From then
@@ -85,7 +97,7 @@ pub trait WorkDir {
         ensures journal { OnOk result (done self.new ≡ done self.old ++ Journals text.now ∷ []) }
         ensures kept { OnErr result (done self.new ≡ done self.old) }
         ensures tag { OnOk result (tagged self.new ≡ Some text.now) }
-        ensures refused { IfErr result (λ error. refuses self.old journal_path (error_kind error)) };
+        ensures refused { IfErr result (λ error. Self.refuses self.old journal_path (error_kind error)) };
 
     /// Names temporary files by the journal that a run which was broken off has left, with this text.
     fn resume(&mut self, alloc: Global, text: &Content) -> Result<(), AllocError>
@@ -96,7 +108,7 @@ pub trait WorkDir {
     fn finish(&mut self, alloc: Global) -> io::Result<()>
         ensures finished { OnOk result (done self.new ≡ done self.old ++ Finishes ∷ []) }
         ensures kept { OnErr result (done self.new ≡ done self.old) }
-        ensures refused { IfErr result (λ error. refuses self.old book_path (error_kind error)) };
+        ensures refused { IfErr result (λ error. Self.refuses self.old book_path (error_kind error)) };
 
     /// Writes a new file into the directory of `path`, under the temporary name of this number, and closes it. At an
     /// error no file is left. It is `AlreadyExists` where something has that name; that is left as it is. The path of the
@@ -111,7 +123,7 @@ pub trait WorkDir {
         ensures draft { IfOk result (λ draft. Self.Draft.drafted draft ≡ (path.now, content.now)) }
         ensures named { IfOk result (λ draft. IsNamed (tagged self.now) number (Self.Draft.named draft)) }
         ensures other { OnOk result (path.now ≢ journal_path) }
-        ensures refused { IfErr result (λ error. refuses self.now path.now (error_kind error)) };
+        ensures refused { IfErr result (λ error. Self.refuses self.now path.now (error_kind error)) };
 
     /// Gives a draft its name, or removes it. Where no file was listed at its path (`over`) and a file or a directory
     /// stands there, as on a system that takes `A` for `a`, the error is `AlreadyExists`. A link there is replaced.
@@ -119,7 +131,8 @@ pub trait WorkDir {
         ensures stored { OnOk result (done self.new ≡ done self.old ++ put_of (Self.Draft.drafted draft) over ∷ []) }
         ensures kept { OnErr result (done self.new ≡ done self.old) }
         ensures tag { tagged self.new ≡ tagged self.old }
-        ensures refused { IfErr result (λ error. refuses self.old (Self.Draft.drafted draft).0 (error_kind error)) };
+        ensures gone { OnErr result (Self.Draft.gone draft) }
+        ensures refused { IfErr result (λ error. Self.refuses self.old (Self.Draft.drafted draft).0 (error_kind error)) };
 
     /// Removes a file. A directory is never removed; the error is `NotFound` where nothing has that name. Of a link the
     /// link goes, not what it leads to.
@@ -127,12 +140,13 @@ pub trait WorkDir {
         ensures removed { OnOk result (done self.new ≡ done self.old ++ Removes path.now ∷ []) }
         ensures kept { OnErr result (done self.new ≡ done self.old) }
         ensures tag { tagged self.new ≡ tagged self.old }
-        ensures refused { IfErr result (λ error. refuses self.old path.now (error_kind error)) };
+        ensures refused { IfErr result (λ error. Self.refuses self.old path.now (error_kind error)) };
 
     /// How many calls changed the directory.
     fn count(&self) -> usize
         ensures { result ≡ length (done self.now) };
 
     /// Removes a draft.
-    fn discard(&self, draft: Self::Draft);
+    fn discard(&self, draft: Self::Draft)
+        ensures { Self.Draft.gone draft };
 }

@@ -1,6 +1,6 @@
 //! The directory.
 
-ghost use Rattle.std.specs.Prelude.{◌≡◌, ◌≢◌, IfErr, IfOk, true};
+ghost use Rattle.std.specs.Prelude.{◌≡◌, IfErr, IfOk, true};
 ghost use Rattle.std.specs.IoError.{error_kind};
 ghost use Rattle.redo_dir.specs.Loaded.{names_in};
 ghost use Rattle.redo_which.specs.Candidates.{book_path as path_of_book, journal_path as path_of_journal};
@@ -8,7 +8,7 @@ ghost use Rattle.redo_lenient.specs.Lenient.{IsHidden, NamesNoneBelow};
 
 use crate::books::has_none_below;
 use once_cell::race::OnceBox;
-use redo_dir::{Seen, WorkDir, journal_path};
+use redo_dir::{DirView, Seen, WorkDir, journal_path};
 use redo_path::Path;
 use redo_tree::Content;
 use redo_which::BOOK;
@@ -29,7 +29,7 @@ pub struct LenientDir<D> {
     hides_more: AtomicBool,
 }
 
-impl<D: WorkDir> LenientDir<D> {
+impl<D: DirView> LenientDir<D> {
     /// This directory.
     pub fn new(alloc: Global, dir: D) -> LenientDir<D>
         ensures { result.dir ≡ dir }
@@ -113,7 +113,7 @@ impl<D: WorkDir> LenientDir<D> {
     }
 }
 
-impl<D: WorkDir> WorkDir for LenientDir<D> {
+impl<D: DirView> DirView for LenientDir<D> {
     ghost use Rattle.redo_lenient.specs.Lenient.{ListsOrHides};
 
     ghost lists = { λ d dir names. ListsOrHides (D.lists d.dir) (D.looks d.dir) (D.reads d.dir) (D.lacks d.dir) (D.refuses d.dir) dir names };
@@ -125,12 +125,6 @@ impl<D: WorkDir> WorkDir for LenientDir<D> {
     ghost reads = { λ d path size bytes. D.reads d.dir path size bytes };
 
     ghost refuses = { λ d path kind. D.refuses d.dir path kind };
-
-    ghost done = { λ d. D.done d.dir };
-
-    ghost tagged = { λ d. D.tagged d.dir };
-
-    type Draft = D::Draft;
 
     fn list(&self, alloc: Global, dir: &Path) -> io::Result<Vec<Option<String>>> {
         match self.dir.list(alloc, dir) {
@@ -146,6 +140,14 @@ impl<D: WorkDir> WorkDir for LenientDir<D> {
     fn read(&self, alloc: Global, path: &Path, size: u64) -> io::Result<Vec<u8>> {
         self.dir.read(alloc, path, size)
     }
+}
+
+impl<D: WorkDir> WorkDir for LenientDir<D> {
+    ghost done = { λ d. D.done d.dir };
+
+    ghost tagged = { λ d. D.tagged d.dir };
+
+    type Draft = D::Draft;
 
     fn journal(&mut self, alloc: Global, text: &Content) -> io::Result<()> {
         self.dir.journal(alloc, text)

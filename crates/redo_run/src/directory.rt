@@ -18,7 +18,7 @@ use crate::storing::carry_out;
 use crate::wanting::{want_less, want_mended, want_more, wanted_first, wanted_for};
 use crate::{Cause, Exit, Host, Observer, Options, RunDirFault};
 use redo_bundle::{ByteOut, write_all};
-use redo_dir::{Names, Reading, Wanted, WorkDir};
+use redo_dir::{DirView, Names, Reading, Wanted, WorkDir};
 use redo_names::PathSet;
 use redo_past::Past;
 use redo_past::laws::a_tree_has_one_past;
@@ -59,15 +59,13 @@ struct Round {
 }
 
 /// Loads a directory, and foresees what a run over it comes to. The directory stays as it is.
-fn attempt<H: Threads + Wait + Sync, D: WorkDir + Sync, O: Observer>(
+fn attempt<H: Threads + Wait + Sync, D: DirView + Sync, O: Observer>(
     host: &mut Host<'_, H, O>,
     dir: &D,
     round: &mut Round,
     options: &Options,
     cause: &mut Cause,
 ) -> Result<Foreseen, RunDirFault>
-where
-    D::Draft: Send,
     requires permit { IsUnused host.old.permit }
     requires names { AreNamesIn (D.lists dir.now) (D.looks dir.now) round.old.names }
     ensures opened { host.old.permit ≤ host.new.permit + 1 }
@@ -92,15 +90,13 @@ where
 
 /// Reads the files that are wanted. Answers no tree where one can't be read that nobody may need: the next round does without
 /// it; and where mending the tree looks into others: the next round reads those, too.
-fn load_part<H: Threads + Sync, D: WorkDir + Sync, O>(
+fn load_part<H: Threads + Sync, D: DirView + Sync, O>(
     host: &Host<'_, H, O>,
     dir: &D,
     round: &mut Round,
     workers: usize,
     cause: &mut Cause,
 ) -> Result<Option<Tree>, RunDirFault>
-where
-    D::Draft: Send,
     requires names { AreNamesIn (D.lists dir.now) (D.looks dir.now) round.old.names }
     ensures names { AreNamesIn (D.lists dir.now) (D.looks dir.now) round.new.names }
     ensures loaded { IfOk result (λ found. IfSome found (λ tree. IsLoaded (D.lists dir.now)
@@ -143,15 +139,13 @@ where
 
 /// The same where not all files are read. Answers nothing where what was foreseen rests on others: more files are read then,
 /// or all of them.
-fn attempt_part<H: Threads + Wait + Sync, D: WorkDir + Sync, O: Observer>(
+fn attempt_part<H: Threads + Wait + Sync, D: DirView + Sync, O: Observer>(
     host: &mut Host<'_, H, O>,
     dir: &D,
     round: &mut Round,
     options: &Options,
     cause: &mut Cause,
 ) -> Result<Option<Foreseen>, RunDirFault>
-where
-    D::Draft: Send,
     requires permit { IsUnused host.old.permit }
     requires names { AreNamesIn (D.lists dir.now) (D.looks dir.now) round.old.names }
     ensures opened { host.old.permit ≤ host.new.permit + 1 }
@@ -186,15 +180,13 @@ where
 }
 
 /// The same where all files are read, so that they decide.
-fn attempt_all<H: Threads + Wait + Sync, D: WorkDir + Sync, O: Observer>(
+fn attempt_all<H: Threads + Wait + Sync, D: DirView + Sync, O: Observer>(
     host: &mut Host<'_, H, O>,
     dir: &D,
     round: &mut Round,
     options: &Options,
     cause: &mut Cause,
 ) -> Result<Foreseen, RunDirFault>
-where
-    D::Draft: Send,
     requires permit { IsUnused host.old.permit }
     requires names { AreNamesIn (D.lists dir.now) (D.looks dir.now) round.old.names }
     ensures opened { host.old.permit ≤ host.new.permit + 1 }
@@ -207,15 +199,13 @@ where
 }
 
 /// Reads some files, and then those that were looked into besides, as often as it takes, and at last all.
-fn foresee_part<H: Threads + Wait + Sync, D: WorkDir + Sync, O: Observer>(
+fn foresee_part<H: Threads + Wait + Sync, D: DirView + Sync, O: Observer>(
     host: &mut Host<'_, H, O>,
     dir: &D,
     round: &mut Round,
     options: &Options,
     cause: &mut Cause,
 ) -> Result<Foreseen, RunDirFault>
-where
-    D::Draft: Send,
     requires permit { 15 ≤ host.old.permit }
     requires names { AreNamesIn (D.lists dir.now) (D.looks dir.now) round.old.names }
     ensures decided { IfOk result (IsDecided (D.lists dir.now) (D.looks dir.now) (D.reads dir.now) (D.lacks dir.now) options.now) }
@@ -234,14 +224,12 @@ where
 /// A round reads some files, and takes each other one for empty. If all files that its build looked into were read, what it
 /// came to holds whatever is in the others. If not, those are read besides, and the build is made again; the last round reads
 /// all files. Where they have few bytes, so does the first, unless one can't be read: it may be one that nobody needs.
-fn foresee<H: Threads + Wait + Sync, D: WorkDir + Sync, O: Observer>(
+fn foresee<H: Threads + Wait + Sync, D: DirView + Sync, O: Observer>(
     host: &mut Host<'_, H, O>,
     dir: &D,
     options: &Options,
     cause: &mut Cause,
 ) -> Result<Foreseen, RunDirFault>
-where
-    D::Draft: Send,
     requires permit { AllowsRounds host.old.permit }
     ensures decided { IfOk result (IsDecided (D.lists dir.now) (D.looks dir.now) (D.reads dir.now) (D.lacks dir.now) options.now) }
     ensures fault { IfErr result (IsUnforeseen (D.lists dir.now) (D.looks dir.now) (D.reads dir.now) (D.refuses dir.now) options.now) }
@@ -310,15 +298,13 @@ where
 }
 
 /// Writes the report that [`run_dir`] would write, and leaves the directory as it is: a run to try out.
-pub fn preview_dir<H: Threads + Wait + Sync, D: WorkDir + Sync, W: ByteOut, O: Observer>(
+pub fn preview_dir<H: Threads + Wait + Sync, D: DirView + Sync, W: ByteOut, O: Observer>(
     host: &mut Host<'_, H, O>,
     dir: &D,
     writer: &mut W,
     options: &Options,
     cause: &mut Cause,
 ) -> Result<DirRun, RunDirFault>
-where
-    D::Draft: Send,
     requires permit { AllowsRounds host.old.permit }
     requires writer { W.has_failed writer.old ≡ false }
     ensures report { IfOk result (PreviewsTree (D.lists dir.now) (D.looks dir.now) (D.reads dir.now) (D.lacks dir.now)
@@ -336,15 +322,13 @@ where
 
 /// Reads the names of a directory with all that is below it, and no file, and writes the candidates for a target's rule,
 /// as `whichdo_bundle` does. Answers whether one of them is a file, and how many names were passed over.
-pub fn whichdo_dir<H: Threads + Sync, D: WorkDir + Sync, W: ByteOut, O>(
+pub fn whichdo_dir<H: Threads + Sync, D: DirView + Sync, W: ByteOut, O>(
     host: &Host<'_, H, O>,
     dir: &D,
     writer: &mut W,
     target: &Path,
     cause: &mut Cause,
 ) -> Result<(bool, u64), RunDirFault>
-where
-    D::Draft: Send,
     requires writer { W.has_failed writer.old ≡ false }
     ensures list { IfOk result (λ run. ListsTree (D.lists dir.now) (D.looks dir.now)
         target.now (W.held writer.old) (W.held writer.new) run.0 run.1) }

@@ -8,7 +8,7 @@ ghost use Rattle.redo_run.specs.inside.Loading.{HasNoOwnPlace, HasNoPlace};
 
 use crate::{Cause, RunDirFault, Said};
 use redo_dir::{
-    LoadFault, Names, Reading, WorkDir, journal_path, list_names, load_dir, load_names,
+    DirView, LoadFault, Names, Reading, journal_path, list_names, load_dir, load_names,
 };
 use redo_past::book_path;
 use redo_path::Path;
@@ -41,7 +41,7 @@ fn note_too_large(cause: &mut Cause, names: &Names) {
 }
 
 /// Whether something stands at a path that is no file of the tree: a link, say.
-fn is_blocked<D: WorkDir>(
+fn is_blocked<D: DirView>(
     dir: &D,
     alloc: Global,
     tree: &Tree,
@@ -64,15 +64,13 @@ fn is_blocked<D: WorkDir>(
 }
 
 /// Reads a directory by at most N threads. Where it can't be read, the cause names what can't.
-pub fn load<T: Threads + Sync, D: WorkDir + Sync>(
+pub fn load<T: Threads + Sync, D: DirView + Sync>(
     rt: &T,
     alloc: Global,
     dir: &D,
     workers: usize,
     cause: &mut Cause,
 ) -> Result<(Tree, u64), RunDirFault>
-where
-    D::Draft: Send,
     ensures loaded { IfOk result (λ loaded. IsLoaded (D.lists dir.now) (Leads (D.looks dir.now) (D.reads dir.now)) loaded.0 loaded.1) }
     ensures unread { IfErr result (IsUnread (D.lists dir.now) (D.looks dir.now) (D.reads dir.now) (D.refuses dir.now)) }
 {
@@ -92,7 +90,7 @@ struct FilePlace {
 
 /// Refuses a directory in which something stands in the place of the book or of the journal that is no file of the tree. A
 /// run without its book would take each file for a source. The cause names the place.
-fn check_place<D: WorkDir>(
+fn check_place<D: DirView>(
     dir: &D,
     alloc: Global,
     tree: &Tree,
@@ -113,7 +111,7 @@ fn check_place<D: WorkDir>(
 }
 
 /// The same for the places of the book and of the journal.
-fn check_places<D: WorkDir>(
+fn check_places<D: DirView>(
     dir: &D,
     alloc: Global,
     tree: &Tree,
@@ -135,15 +133,13 @@ fn check_places<D: WorkDir>(
 }
 
 /// Finds what a directory has, by at most N threads. Where that can't be done, the cause names where.
-pub(crate) fn list<T: Threads + Sync, D: WorkDir + Sync>(
+pub(crate) fn list<T: Threads + Sync, D: DirView + Sync>(
     rt: &T,
     alloc: Global,
     dir: &D,
     workers: usize,
     cause: &mut Cause,
 ) -> Result<Names, RunDirFault>
-where
-    D::Draft: Send,
     ensures names { IfOk result (AreNamesIn (D.lists dir.now) (D.looks dir.now)) }
     ensures unread { IfErr result (IsUnread (D.lists dir.now) (D.looks dir.now) (D.reads dir.now) (D.refuses dir.now)) }
 {
@@ -162,15 +158,13 @@ pub(crate) struct Lent<'a, T> {
 
 /// Reads the files that are wanted, and makes a tree of what was found. The book has to be a file if there is one, and the
 /// journal too.
-pub(crate) fn load_wanted<T: Threads + Sync, D: WorkDir + Sync>(
+pub(crate) fn load_wanted<T: Threads + Sync, D: DirView + Sync>(
     lent: &Lent<'_, T>,
     dir: &D,
     names: &mut Names,
     reading: Reading<'_>,
     cause: &mut Cause,
 ) -> Result<Tree, RunDirFault>
-where
-    D::Draft: Send,
     requires names { AreNamesIn (D.lists dir.now) (D.looks dir.now) names.old }
     ensures names { AreNamesIn (D.lists dir.now) (D.looks dir.now) names.new }
     ensures passed { names.new.passed ≡ names.old.passed }
@@ -192,14 +186,12 @@ where
 }
 
 /// Reads the names of a directory, and none of its files. Where that can't be done, the cause names where.
-pub(crate) fn load_unread<T: Threads + Sync, D: WorkDir + Sync>(
+pub(crate) fn load_unread<T: Threads + Sync, D: DirView + Sync>(
     rt: &T,
     alloc: Global,
     dir: &D,
     cause: &mut Cause,
 ) -> Result<(Tree, u64), RunDirFault>
-where
-    D::Draft: Send,
     ensures named { IfOk result (λ loaded. HasNames (D.lists dir.now) (D.looks dir.now) loaded.0 loaded.1) }
     ensures unread { IfErr result (IsUnread (D.lists dir.now) (D.looks dir.now) Unread (D.refuses dir.now)) }
 {

@@ -16,7 +16,7 @@ use crate::loading::{Lent, list, load_wanted};
 use crate::wanting::wanted_by_books;
 use crate::{Cause, RunDirFault};
 use redo_book::BookFault;
-use redo_dir::{Left, Names, Reading, Wanted, WorkDir};
+use redo_dir::{DirView, Left, Names, Reading, Wanted};
 use redo_mend::{Mended, mend};
 use redo_names::PathSet;
 use redo_past::{Past, book_path, has_book};
@@ -69,15 +69,13 @@ fn is_past_read(alloc: Global, past: &Past, wanted: &Wanted) -> Result<bool, All
 }
 
 /// Opens a directory by some of its files. Answers nothing where what came of them rests on others.
-fn open_part<T: Threads + Sync, D: WorkDir + Sync>(
+fn open_part<T: Threads + Sync, D: DirView + Sync>(
     lent: &Lent<'_, T>,
     dir: &D,
     names: &mut Names,
     reading: Reading<'_>,
     cause: &mut Cause,
 ) -> Result<Option<Opened>, RunDirFault>
-where
-    D::Draft: Send,
     requires names { AreNamesIn (D.lists dir.now) (D.looks dir.now) names.old }
     ensures names { AreNamesIn (D.lists dir.now) (D.looks dir.now) names.new }
     ensures opened { IfOk result (λ found. IfSome found
@@ -105,15 +103,13 @@ where
 }
 
 /// Opens a directory by all of its files.
-fn open_all<T: Threads + Sync, D: WorkDir + Sync>(
+fn open_all<T: Threads + Sync, D: DirView + Sync>(
     lent: &Lent<'_, T>,
     dir: &D,
     names: &mut Names,
     workers: usize,
     cause: &mut Cause,
 ) -> Result<Opened, RunDirFault>
-where
-    D::Draft: Send,
     requires names { AreNamesIn (D.lists dir.now) (D.looks dir.now) names.old }
     ensures opened { IfOk result (IsOpened (D.lists dir.now) (D.looks dir.now) (D.reads dir.now) (D.lacks dir.now)) }
     ensures fault { IfErr result (IsUnopened (D.lists dir.now) (D.looks dir.now) (D.reads dir.now) (D.refuses dir.now)) }
@@ -140,15 +136,13 @@ where
 ///
 /// A book is refused only once all files were read. Where a directory can't be read, or something else than a file
 /// stands in the place of the book or of the journal, the cause names what it is.
-pub fn open_dir<T: Threads + Sync, D: WorkDir + Sync>(
+pub fn open_dir<T: Threads + Sync, D: DirView + Sync>(
     rt: &T,
     alloc: Global,
     dir: &D,
     workers: usize,
     cause: &mut Cause,
 ) -> Result<Opened, RunDirFault>
-where
-    D::Draft: Send,
     ensures opened { IfOk result (IsOpened (D.lists dir.now) (D.looks dir.now) (D.reads dir.now) (D.lacks dir.now)) }
     ensures fault { IfErr result (IsUnopened (D.lists dir.now) (D.looks dir.now) (D.reads dir.now) (D.refuses dir.now)) }
 {

@@ -3,7 +3,7 @@
 
 use crate::foreseen::Foreseen;
 use redo_book::{Book, BookEntry, BookRecord, read_book};
-use redo_dir::{Names, Place, Wanted, WorkDir, journal_path};
+use redo_dir::{DirView, Names, Place, Wanted, journal_path};
 use redo_names::PathSet;
 use redo_past::book_path;
 use redo_path::Path;
@@ -24,7 +24,7 @@ fn bytes_of(places: &[Place]) -> u64 {
 }
 
 /// The book that the file at a place has the text of, or none where it can't be read: a load then tells why.
-fn book_at<D: WorkDir>(alloc: Global, dir: &D, place: &Place) -> Option<Book> {
+fn book_at<D: DirView>(alloc: Global, dir: &D, place: &Place) -> Option<Book> {
     let text = dir.read(alloc, &place.path, place.size?).ok()?;
     read_book(alloc, &text).ok()
 }
@@ -81,7 +81,7 @@ fn rested_on(alloc: Global, book: &Book, paths: &[Path]) -> Result<PathSet, Allo
 }
 
 /// The books that the files in the places of the book and of the journal have the text of.
-fn books_in<D: WorkDir>(alloc: Global, dir: &D, names: &Names) -> Result<Vec<Book>, AllocError> {
+fn books_in<D: DirView>(alloc: Global, dir: &D, names: &Names) -> Result<Vec<Book>, AllocError> {
     let mut books = Vec::new(alloc);
     for place in &names.found {
         let path = place.path.text();
@@ -103,7 +103,7 @@ fn wanted_own(alloc: Global) -> Result<Wanted, AllocError> {
 }
 
 /// The files to read where nothing is built: the book and the journal, and what both name.
-pub(crate) fn wanted_by_books<D: WorkDir>(
+pub(crate) fn wanted_by_books<D: DirView>(
     alloc: Global,
     dir: &D,
     names: &Names,
@@ -117,7 +117,7 @@ pub(crate) fn wanted_by_books<D: WorkDir>(
 
 /// The files to read for a build of these paths where not all are: the scripts, the book and the journal with the files at
 /// the targets of both, and what the paths rest on by them.
-pub(crate) fn wanted_for<D: WorkDir>(
+pub(crate) fn wanted_for<D: DirView>(
     alloc: Global,
     dir: &D,
     names: &Names,
@@ -176,7 +176,7 @@ fn newly_refused(
 }
 
 /// The files to read first for a build of these paths: all, where they have few bytes.
-pub(crate) fn wanted_first<D: WorkDir>(
+pub(crate) fn wanted_first<D: DirView>(
     alloc: Global,
     dir: &D,
     names: &Names,

@@ -3,7 +3,7 @@
 
 ghost use Rattle.redo_dir.specs.Stored.{steps_of};
 
-use redo_dir::{Change, Drafted, Seen, Tag, WorkDir};
+use redo_dir::{Change, DirView, Drafted, Seen, Tag, WorkDir};
 use redo_path::Path;
 use redo_tree::Content;
 use redo_which::JOURNAL;
@@ -35,6 +35,8 @@ impl Drafted for MemoryDraft {
     ghost drafted = { λ d. (d.path, d.content) };
 
     ghost named = { λ d. string_bytes d.name };
+
+    ghost gone = { λ _. Unit {0} };
 }
 
 /// The directory.
@@ -107,7 +109,7 @@ fn listed(alloc: Global, path: &Path) -> Result<Option<String>, AllocError> {
     }
 }
 
-impl WorkDir for MemoryDir {
+impl DirView for MemoryDir {
     ghost lists = { λ _ _ _. Unit {0} };
 
     ghost looks = { λ _ _ _. Unit {0} };
@@ -117,12 +119,6 @@ impl WorkDir for MemoryDir {
     ghost reads = { λ _ _ _ _. Unit {0} };
 
     ghost refuses = { λ _ _ _. Unit {0} };
-
-    ghost done = { λ d. steps_of d.done.items };
-
-    ghost tagged = { λ d. d.tag };
-
-    type Draft = MemoryDraft;
 
     fn list(&self, alloc: Global, dir: &Path) -> io::Result<Vec<Option<String>>> {
         self.count_call()?;
@@ -160,6 +156,14 @@ impl WorkDir for MemoryDir {
         }
         Err(io::Error::from(ErrorKind::NotFound))
     }
+}
+
+impl WorkDir for MemoryDir {
+    ghost done = { λ d. steps_of d.done.items };
+
+    ghost tagged = { λ d. d.tag };
+
+    type Draft = MemoryDraft;
 
     fn journal(&mut self, alloc: Global, text: &Content) -> io::Result<()> {
         self.count_call()?;
@@ -189,7 +193,7 @@ impl WorkDir for MemoryDir {
     ) -> io::Result<MemoryDraft> {
         self.count_call()?;
         let Some(tag) = &self.tag else {
-            return Err(io::Error::from(ErrorKind::PermissionDenied));
+            return Err(io::Error::from(ErrorKind::InvalidInput));
         };
         if path.text() == JOURNAL {
             return Err(io::Error::from(ErrorKind::InvalidFilename));

@@ -1,6 +1,7 @@
 -- Files that are stored together: first all are written under temporary names, and then they get their own.
-use Rattle.std.specs.Prelude.{◌≡◌, ◌<◌, Bool, ℕ, List, [], ◌∷◌, ◌++◌, IfErr, IsUtf8, OnOk, Some, Result, Ok, Err}
+use Rattle.std.specs.Prelude.{◌≡◌, ◌<◌, Bool, ℕ, List, [], ◌∷◌, ◌++◌, IfErr, IfOk, IsUtf8, OnOk, Some, Result, Ok, Err}
 use Rattle.std.specs.Prelude.{length, map, slice_get, take}
+use Rattle.std.specs.List.{AllByRecursion}
 use Rattle.std.specs.declared.io.ErrorKind.{ErrorKind}
 use Rattle.std.specs.declared.io.ErrorKind.TheVariants.{OutOfMemory}
 use Rattle.redo_tree.specs.Tree.{Tree}
@@ -66,6 +67,18 @@ HasWritten told drafted file (Err kind) = told file.0 kind
 -- so it was of a draft
 abbrev pub IsWritten : {F : Type 0} → Refusals → (F → List ℕ × List ℕ) → Draft F → Type 0
 IsWritten told drafted draft = HasWritten told drafted (draft.path, draft.content) draft.written
+
+-- a draft that has no name was asked to be removed, if it was written
+abbrev pub IsGivenUp : {F : Type 0} → (F → Type 0) → Draft F → Type 0
+IsGivenUp gone draft = IfOk draft.written gone
+
+-- the first drafts got their names, and the rest was given up
+pub record GivesUpRest {F : Type 0} (gone : F → Type 0) (old : List Step) (drafts : List (Draft F)) (new : List Step) : Type 0 where
+  pub named : List (Draft F)
+  pub rest : List (Draft F)
+  pub all : drafts ≡ named ++ rest
+  pub stored : new ≡ old ++ asked named
+  pub given_up : AllByRecursion (IsGivenUp gone) rest
 
 -- the first files of a list, as they take their places in a directory that was read as this tree; their paths are text
 abbrev pub IsFront : Tree → Files → List Step → Type 0

@@ -10,8 +10,8 @@ use Rattle.redo_clean.proofs.cleaning.clean_files.Goals as goal
 pub loop-path-init : goal.loop-path-init
 loop-path-init g c =
     let done = g.D.WorkDir.done in
-    let leads = AnsweredWhile done (λ d. Leads (g.D.WorkDir.looks d) (g.D.WorkDir.reads d)) in
-    let refuses = AnsweredWhile done g.D.WorkDir.refuses in
+    let leads = AnsweredWhile done (λ d. Leads (g.D.DirView.looks d) (g.D.DirView.reads d)) in
+    let refuses = AnsweredWhile done g.D.DirView.refuses in
     let log = done c.args.dir.now in
     let files = c.args.files.now in
     let none = c.requires.none in
@@ -24,7 +24,7 @@ loop-path-init g c =
 pub returns-in-Err-clause-fault : goal.returns-in-Err-clause-fault
 returns-in-Err-clause-fault g c =
     let done = g.D.WorkDir.done in
-    let refuses = AnsweredWhile done g.D.WorkDir.refuses in
+    let refuses = AnsweredWhile done g.D.DirView.refuses in
     let files : List File = c.args.files.now in
     let file : File = c.loop-path-item.result in
     let i = c.loop-path.path-index in
@@ -37,8 +37,8 @@ returns-in-Err-clause-fault g c =
 pub loop-path-preserved : goal.loop-path-preserved
 loop-path-preserved g c =
     let done = g.D.WorkDir.done in
-    let leads = AnsweredWhile done (λ d. Leads (g.D.WorkDir.looks d) (g.D.WorkDir.reads d)) in
-    let refuses = AnsweredWhile done g.D.WorkDir.refuses in
+    let leads = AnsweredWhile done (λ d. Leads (g.D.DirView.looks d) (g.D.DirView.reads d)) in
+    let refuses = AnsweredWhile done g.D.DirView.refuses in
     let before = c.loop-path.invariant in
     let log = done c.args.dir.now in
     let files : List File = c.args.files.now in
@@ -48,7 +48,7 @@ loop-path-preserved g c =
     let fate = c.in-Ok.fate in
     let there = slice_get_read files (length files) i file refl c.loop-path-test.true c.loop-path-item.is in
     let at = subst (λ n. slice_get files n ≡ Some file) (sym before.count) there in
-    let here = fate-while done (λ d. Leads (g.D.WorkDir.looks d) (g.D.WorkDir.reads d)) g.D.WorkDir.refuses c.loop-path.dir (log ++ removals files fates) file fate before.removed c.in-Ok.ensures.fate in
+    let here = fate-while done (λ d. Leads (g.D.DirView.looks d) (g.D.DirView.reads d)) g.D.DirView.refuses c.loop-path.dir (log ++ removals files fates) file fate before.removed c.in-Ok.ensures.fate in
     let pushed : c.push_reserved.new.self.items ≡ fates ++ fate ∷ [] = c.push_reserved.ensures.items ∙ ap (λ xs. xs ++ fate ∷ []) c.in_ok-reserve.ensures.items in
     let more = ap (removals files) pushed ∙ removals-more files fates file fate at in
     record {

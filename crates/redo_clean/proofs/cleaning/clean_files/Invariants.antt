@@ -7,6 +7,6 @@ use Rattle.redo_clean.proofs.cleaning.clean_files.Given as goal
 abbrev pub invariant-loop-path : goal.invariant-loop-path
 invariant-loop-path g l = record {
   count : length l.fates.items ≡ l.path-index;
-  met : MeetFates (AnsweredWhile g.D.WorkDir.done (λ d. Leads (g.D.WorkDir.looks d) (g.D.WorkDir.reads d))) (AnsweredWhile g.D.WorkDir.done g.D.WorkDir.refuses) (g.D.WorkDir.done l.fn.dir) l.files l.fates.items;
+  met : MeetFates (AnsweredWhile g.D.WorkDir.done (λ d. Leads (g.D.DirView.looks d) (g.D.DirView.reads d))) (AnsweredWhile g.D.WorkDir.done g.D.DirView.refuses) (g.D.WorkDir.done l.fn.dir) l.files l.fates.items;
   removed : g.D.WorkDir.done l.dir ≡ g.D.WorkDir.done l.fn.dir ++ removals l.files l.fates.items;
 }

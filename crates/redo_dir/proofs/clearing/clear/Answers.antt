@@ -18,7 +18,7 @@ put_first g c =
 
 pub returns-clause-done : goal.returns-clause-done
 returns-clause-done g c =
-    let told : Refusals = λ path kind. (d : g.row.D.Denot) × g.D.WorkDir.refuses d path kind in
+    let told : Refusals = λ path kind. (d : g.row.D.Denot) × g.D.DirView.refuses d path kind in
     let done = g.D.WorkDir.done in
     let own : List (List ℕ) = c.args.left.now.own.items in
     let all = subst (λ ps. OnOk c.remove_each.result (done c.remove_each.new.dir ≡ done c.match-left.dir ++ map Removes ps)) c.deref.ensures.value c.remove_each.ensures.all in
@@ -27,7 +27,7 @@ returns-clause-done g c =
 
 pub returns-clause-refused : goal.returns-clause-refused
 returns-clause-refused g c =
-    let told : Refusals = λ path kind. (d : g.row.D.Denot) × g.D.WorkDir.refuses d path kind in
+    let told : Refusals = λ path kind. (d : g.row.D.Denot) × g.D.DirView.refuses d path kind in
     let done = g.D.WorkDir.done in
     let own : List (List ℕ) = c.args.left.now.own.items in
     let part = subst (λ ps. IfErr c.remove_each.result (Leaves told ps c.count-first.result (done c.match-left.dir) (done c.remove_each.new.dir))) c.deref.ensures.value c.remove_each.ensures.part in

@@ -12,6 +12,6 @@ returns-clause-found g c =
 
 pub returns-clause-filled : goal.returns-clause-filled
 returns-clause-filled g c =
-    let filled = IsFilled (wants c.args.reading.wanted.now) (g.D.WorkDir.reads c.args.dir.now) (g.D.WorkDir.refuses c.args.dir.now) in
+    let filled = IsFilled (wants c.args.reading.wanted.now) (g.D.DirView.reads c.args.dir.now) (g.D.DirView.refuses c.args.dir.now) in
     let each : (k : ℕ) (d : Place) → k < length c.for_each_mut.new.s → filled (get_or c.for_each_mut.new.s k d) = search (rules, of_calls) in
     all_each filled c.for_each_mut.new.s each

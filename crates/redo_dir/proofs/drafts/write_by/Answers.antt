@@ -18,7 +18,7 @@ returns-clause-asked g c =
 
 pub returns-clause-written : goal.returns-clause-written
 returns-clause-written g c =
-    let told : Refusals = λ path kind. (d : g.row.D.Denot) × g.D.WorkDir.refuses d path kind in
+    let told : Refusals = λ path kind. (d : g.row.D.Denot) × g.D.DirView.refuses d path kind in
     let written = IsWritten told g.D.Draft.Drafted.drafted in
     let old = c.args.drafts.now in let new = c.for_each_mut.new.s in
     let len : length new ≡ length old = search rules in

@@ -35,7 +35,7 @@ returns-in_err-store_files-clause-done g c =
 
 pub returns-in_err-store_files-clause-refused : goal.returns-in_err-store_files-clause-refused
 returns-in_err-store_files-clause-refused g c =
-    let told : Refusals = λ path kind. (d : g.row.D.Denot) × g.D.WorkDir.refuses d path kind in
+    let told : Refusals = λ path kind. (d : g.row.D.Denot) × g.D.DirView.refuses d path kind in
     let files : Files = c.args.new.now.files.items in
     let fault = c.in_err-store_files.field-0.0 in
     let result : Err (File fault) ≡ c.from_residual.result = search rules in
@@ -52,7 +52,7 @@ returns-in-Err-finish-clause-text g c =
 
 pub returns-in-Err-finish-clause-refused : goal.returns-in-Err-finish-clause-refused
 returns-in-Err-finish-clause-refused g c =
-    let told : Refusals = λ path kind. (d : g.row.D.Denot) × g.D.WorkDir.refuses d path kind in
+    let told : Refusals = λ path kind. (d : g.row.D.Denot) × g.D.DirView.refuses d path kind in
     let files : Files = c.args.new.now.files.items in
     let kind = error_kind c.in-Err-finish.error in
     let count : c.len.result ≡ length files = search rules in

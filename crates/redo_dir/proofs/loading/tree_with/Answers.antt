@@ -9,7 +9,7 @@ use Rattle.redo_dir.proofs.loading.tree_with.Goals as goal
 pub returns-clause-loaded : goal.returns-clause-loaded
 returns-clause-loaded g c passed l =
     let dir = c.args.dir.now in
-    loads (g.D.WorkDir.lists dir) (g.D.WorkDir.looks dir) (g.D.WorkDir.reads dir) (g.D.WorkDir.refuses dir)
+    loads (g.D.DirView.lists dir) (g.D.DirView.looks dir) (g.D.DirView.reads dir) (g.D.DirView.refuses dir)
     (wants c.args.reading.wanted.now) (found_in c.args.places.now) passed l c.fill_by.new.places c.fill_by.ensures.found
     c.fill_by.ensures.filled c.tree_of.result c.in_ok-check_read.ensures.all c.tree_of.ensures.made
 
@@ -21,7 +21,7 @@ returns-clause-text g c h =
 pub returns-clause-fault : goal.returns-clause-fault
 returns-clause-fault g c passed l =
     let dir = c.args.dir.now in
-    loads_not (g.D.WorkDir.lists dir) (g.D.WorkDir.looks dir) (g.D.WorkDir.reads dir) (g.D.WorkDir.refuses dir)
+    loads_not (g.D.DirView.lists dir) (g.D.DirView.looks dir) (g.D.DirView.reads dir) (g.D.DirView.refuses dir)
     (wants c.args.reading.wanted.now) (found_in c.args.places.now) passed l c.fill_by.new.places c.fill_by.ensures.found
     c.fill_by.ensures.filled c.tree_of.result c.in_ok-check_read.ensures.all c.tree_of.ensures.none
 
@@ -29,10 +29,10 @@ returns-clause-fault g c passed l =
 pub returns-in_err-check_read-clause-fault : goal.returns-in_err-check_read-clause-fault
 returns-in_err-check_read-clause-fault g c passed l =
     let dir = c.args.dir.now in
-    let leads = Leads (g.D.WorkDir.looks dir) (ReadIf (wants c.args.reading.wanted.now) (g.D.WorkDir.reads dir)) in
+    let leads = Leads (g.D.DirView.looks dir) (ReadIf (wants c.args.reading.wanted.now) (g.D.DirView.reads dir)) in
     let fault = c.in_err-check_read.field-0.0 in
     let told : Err fault ≡ c.from_residual.result = search rules in
-    subst (λ r. IfErr r (IsUnloaded (g.D.WorkDir.lists dir) leads (g.D.WorkDir.refuses dir))) told
-    (refused_load (g.D.WorkDir.lists dir) leads (g.D.WorkDir.refuses dir) fault
-    (unread (wants c.args.reading.wanted.now) (g.D.WorkDir.reads dir) (g.D.WorkDir.refuses dir) c.fill_by.new.places fault
+    subst (λ r. IfErr r (IsUnloaded (g.D.DirView.lists dir) leads (g.D.DirView.refuses dir))) told
+    (refused_load (g.D.DirView.lists dir) leads (g.D.DirView.refuses dir) fault
+    (unread (wants c.args.reading.wanted.now) (g.D.DirView.reads dir) (g.D.DirView.refuses dir) c.fill_by.new.places fault
     c.fill_by.ensures.filled c.in_err-check_read.ensures.refused))

@@ -11,6 +11,6 @@ returns-clause-paths g c =
 
 pub returns-clause-looked : goal.returns-clause-looked
 returns-clause-looked g c =
-    let looked = IsLooked (g.D.WorkDir.looks c.args.dir.now) (g.D.WorkDir.refuses c.args.dir.now) in
+    let looked = IsLooked (g.D.DirView.looks c.args.dir.now) (g.D.DirView.refuses c.args.dir.now) in
     let each : (k : ℕ) (d : Name) → k < length c.for_each_mut.new.s → looked (get_or c.for_each_mut.new.s k d) = search (rules, of_calls) in
     all_each looked c.for_each_mut.new.s each

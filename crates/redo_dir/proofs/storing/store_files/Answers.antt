@@ -10,7 +10,7 @@ loop-stored-init g c = (nothing_yet c.args.tree.now c.args.files.now (g.D.WorkDi
 
 pub returns-in-Err-clause-text : goal.returns-in-Err-clause-text
 returns-in-Err-clause-text g c =
-    let told : Refusals = λ path kind. (d : g.row.D.Denot) × g.D.WorkDir.refuses d path kind in
+    let told : Refusals = λ path kind. (d : g.row.D.Denot) × g.D.DirView.refuses d path kind in
     let tree = c.args.tree.now in let files = c.args.files.now in let stored = g.D.WorkDir.done in
     let before = stored c.args.dir.now in let old = stored c.loop-stored.dir in let new = stored c.store_front-outcome.new.dir in
     let some = c.front_of-front.result.now in let fault = c.in-Err.fault in
@@ -24,7 +24,7 @@ returns-in-Err-clause-text g c =
 
 pub returns-in-Err-clause-stored : goal.returns-in-Err-clause-stored
 returns-in-Err-clause-stored g c =
-    let told : Refusals = λ path kind. (d : g.row.D.Denot) × g.D.WorkDir.refuses d path kind in
+    let told : Refusals = λ path kind. (d : g.row.D.Denot) × g.D.DirView.refuses d path kind in
     let tree = c.args.tree.now in let files = c.args.files.now in let stored = g.D.WorkDir.done in
     let before = stored c.args.dir.now in let old = stored c.loop-stored.dir in let new = stored c.store_front-outcome.new.dir in
     let some = c.front_of-front.result.now in let fault = c.in-Err.fault in
@@ -35,7 +35,7 @@ returns-in-Err-clause-stored g c =
 
 pub returns-in-Err-clause-refused : goal.returns-in-Err-clause-refused
 returns-in-Err-clause-refused g c =
-    let told : Refusals = λ path kind. (d : g.row.D.Denot) × g.D.WorkDir.refuses d path kind in
+    let told : Refusals = λ path kind. (d : g.row.D.Denot) × g.D.DirView.refuses d path kind in
     let tree = c.args.tree.now in let files = c.args.files.now in let stored = g.D.WorkDir.done in
     let before = stored c.args.dir.now in let old = stored c.loop-stored.dir in let new = stored c.store_front-outcome.new.dir in
     let some = c.front_of-front.result.now in let fault = c.in-Err.fault in
@@ -48,7 +48,7 @@ returns-in-Err-clause-refused g c =
 
 pub loop-stored-preserved : goal.loop-stored-preserved
 loop-stored-preserved g c =
-    let told : Refusals = λ path kind. (d : g.row.D.Denot) × g.D.WorkDir.refuses d path kind in
+    let told : Refusals = λ path kind. (d : g.row.D.Denot) × g.D.DirView.refuses d path kind in
     let tree = c.args.tree.now in let files = c.args.files.now in let stored = g.D.WorkDir.done in
     let before = stored c.args.dir.now in let old = stored c.loop-stored.dir in let new = stored c.store_front-outcome.new.dir in
     let so = c.loop-stored.invariant in

@@ -5,10 +5,10 @@ use Rattle.redo_dir.specs.Called.{AreOnDisk, is_waited_for}
 use Rattle.redo_dir.proofs.WaitLemmas.{wait_follows, wait_reaches}
 use Rattle.redo_dir.proofs.waiting.sync_each.Goals as goal
 
-pub returns-in_err-sync_names : goal.returns-in_err-sync_names
-returns-in_err-sync_names g c =
+pub returns-in_err-sync_names-clause-waited : goal.returns-in_err-sync_names-clause-waited
+returns-in_err-sync_names-clause-waited g c =
     let so_far = c.loop-place.invariant in
-    let wait = c.sync_names.ensures in
+    let wait = c.sync_names.ensures.waited in
     let place = path_buf_bytes c.place-item.result in (
       so_far.0 ++ (place, wait.0) ∷ [],
       wait_follows g.C.Calls.after c.args.calls.now c.loop-place.calls c.sync_names.new.calls so_far.0 place wait.0 so_far.1 wait.1,
@@ -18,7 +18,7 @@ returns-in_err-sync_names g c =
 pub loop-place-preserved : goal.loop-place-preserved
 loop-place-preserved g c =
     let so_far = c.loop-place.invariant in
-    let wait = c.sync_names.ensures in
+    let wait = c.sync_names.ensures.waited in
     let item = c.place-item.result in
     let place = path_buf_bytes item in
     let places = c.args.places.now in

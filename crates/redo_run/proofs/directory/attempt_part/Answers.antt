@@ -10,11 +10,11 @@ use Rattle.redo_run.proofs.directory.attempt_part.Goals as goal
 pub returns-then-branch-clause-decided : goal.returns-then-branch-clause-decided
 returns-then-branch-clause-decided g c =
     let dir = c.args.dir.now in let f = c.in-Ok.foreseen in let round = c.load_part.new.round in
-    let lists = g.D.WorkDir.lists dir in let looks = g.D.WorkDir.looks dir in let reads = g.D.WorkDir.reads dir in
+    let lists = g.D.DirView.lists dir in let looks = g.D.DirView.looks dir in let reads = g.D.DirView.reads dir in
     let paths = wants round.wanted in let passed = round.names.passed in
     let loaded = subst (λ o. IfSome o (λ tree. IsLoaded lists (Leads looks (ReadIf paths reads)) tree passed))
     c.in-Some.is c.in_ok-tree.ensures.loaded in
-    let lacks = g.D.WorkDir.lacks dir in
+    let lacks = g.D.DirView.lacks dir in
     let own = subst (λ o. IfSome o (AreFilesOrNone lacks)) c.in-Some.is c.in_ok-tree.ensures.own in
     let mended = subst (λ o. IfSome o (HasMended paths)) c.in-Some.is c.in_ok-tree.ensures.mended in
     let all : c.in_ok-is_covered-in-Ok.field-0 ≡ true = search rules in

@@ -10,7 +10,7 @@ foresee_part-requires-clause-names g c κs within =
     let dir = c.args.dir.now in
     elim c.if-round.branch [
       | then-round+in-Err-Load+in_ok-round w ↦
-          subst (λ (r : Round). AreNamesIn (g.D.WorkDir.lists dir) (g.D.WorkDir.looks dir) r.names) (sym w.round-is) w.attempt_all.ensures.names
+          subst (λ (r : Round). AreNamesIn (g.D.DirView.lists dir) (g.D.DirView.looks dir) r.names) (sym w.round-is) w.attempt_all.ensures.names
       | else-round w ↦
-          subst (λ (r : Round). AreNamesIn (g.D.WorkDir.lists dir) (g.D.WorkDir.looks dir) r.names) (sym w.round-is) c.in_ok-names.ensures.names
+          subst (λ (r : Round). AreNamesIn (g.D.DirView.lists dir) (g.D.DirView.looks dir) r.names) (sym w.round-is) c.in_ok-names.ensures.names
     ]

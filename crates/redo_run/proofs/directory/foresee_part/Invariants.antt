@@ -6,5 +6,5 @@ use Rattle.redo_run.proofs.directory.foresee_part.Given as goal
 abbrev pub invariant-loop-part : goal.invariant-loop-part
 invariant-loop-part g l = record {
   permit : 15 ≤ l.host.permit + l._part;
-  names : AreNamesIn (g.D.WorkDir.lists l.dir) (g.D.WorkDir.looks l.dir) l.round.names;
+  names : AreNamesIn (g.D.DirView.lists l.dir) (g.D.DirView.looks l.dir) l.round.names;
 }

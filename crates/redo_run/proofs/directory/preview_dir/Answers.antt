@@ -8,11 +8,11 @@ use Rattle.redo_run.proofs.directory.preview_dir.Goals as goal
 -- the report of the build wasn't written to its end
 pub returns-in_err-write_report-clause-fault : goal.returns-in_err-write_report-clause-fault
 returns-in_err-write_report-clause-fault g c =
-    let lists = g.D.WorkDir.lists c.args.dir.now in
-    let looks = g.D.WorkDir.looks c.args.dir.now in
-    let reads = g.D.WorkDir.reads c.args.dir.now in
-    let refuses = g.D.WorkDir.refuses c.args.dir.now in
-    let lacks = g.D.WorkDir.lacks c.args.dir.now in
+    let lists = g.D.DirView.lists c.args.dir.now in
+    let looks = g.D.DirView.looks c.args.dir.now in
+    let reads = g.D.DirView.reads c.args.dir.now in
+    let refuses = g.D.DirView.refuses c.args.dir.now in
+    let lacks = g.D.DirView.lacks c.args.dir.now in
     let options = c.args.options.now in
     let run = c.in_ok-preview.field-0.run in
     let decided = c.in_ok-preview.ensures.decided in

@@ -12,12 +12,12 @@ use Rattle.redo_run.proofs.directory.run_dir.Goals as goal
 -- nothing was foreseen, and nothing done
 pub returns-in_err-run-clause-fault : goal.returns-in_err-run-clause-fault
 returns-in_err-run-clause-fault g c =
-    let lists = g.D.WorkDir.lists c.args.dir.now in
-    let looks = g.D.WorkDir.looks c.args.dir.now in
-    let reads = g.D.WorkDir.reads c.args.dir.now in
-    let lacks = g.D.WorkDir.lacks c.args.dir.now in
-    let refuses = g.D.WorkDir.refuses c.args.dir.now in
-    let told : List ℕ → ErrorKind → Type 0 = λ path kind. (d : g.row.D.Denot) × g.D.WorkDir.refuses d path kind in
+    let lists = g.D.DirView.lists c.args.dir.now in
+    let looks = g.D.DirView.looks c.args.dir.now in
+    let reads = g.D.DirView.reads c.args.dir.now in
+    let lacks = g.D.DirView.lacks c.args.dir.now in
+    let refuses = g.D.DirView.refuses c.args.dir.now in
+    let told : List ℕ → ErrorKind → Type 0 = λ path kind. (d : g.row.D.Denot) × g.D.DirView.refuses d path kind in
     let options = c.args.options.now in
     let before = g.D.WorkDir.done c.args.dir.now in
     let fault = c.in_err-run.field-0.0 in
@@ -28,12 +28,12 @@ returns-in_err-run-clause-fault g c =
 -- some of the steps were done
 pub returns-in_err-carry_out-clause-fault : goal.returns-in_err-carry_out-clause-fault
 returns-in_err-carry_out-clause-fault g c =
-    let lists = g.D.WorkDir.lists c.args.dir.now in
-    let looks = g.D.WorkDir.looks c.args.dir.now in
-    let reads = g.D.WorkDir.reads c.args.dir.now in
-    let lacks = g.D.WorkDir.lacks c.args.dir.now in
-    let refuses = g.D.WorkDir.refuses c.args.dir.now in
-    let told : List ℕ → ErrorKind → Type 0 = λ path kind. (d : g.row.D.Denot) × g.D.WorkDir.refuses d path kind in
+    let lists = g.D.DirView.lists c.args.dir.now in
+    let looks = g.D.DirView.looks c.args.dir.now in
+    let reads = g.D.DirView.reads c.args.dir.now in
+    let lacks = g.D.DirView.lacks c.args.dir.now in
+    let refuses = g.D.DirView.refuses c.args.dir.now in
+    let told : List ℕ → ErrorKind → Type 0 = λ path kind. (d : g.row.D.Denot) × g.D.DirView.refuses d path kind in
     let options = c.args.options.now in
     let before = g.D.WorkDir.done c.args.dir.now in let after = g.D.WorkDir.done c.carry_out.new.dir in
     let run = c.in_ok-run.field-0.run in let plan = c.in_ok-run.field-0.plan in
@@ -64,12 +64,12 @@ returns-in_err-carry_out-clause-fault g c =
 pub returns-in_err-write_report-clause-fault : goal.returns-in_err-write_report-clause-fault
 returns-in_err-write_report-clause-fault g c =
     let p = err_from_is_err_and c.from_residual-in_err-write_report.result c.from_residual-in_err-write_report.ensures.1 in
-    let lists = g.D.WorkDir.lists c.args.dir.now in
-    let looks = g.D.WorkDir.looks c.args.dir.now in
-    let reads = g.D.WorkDir.reads c.args.dir.now in
-    let lacks = g.D.WorkDir.lacks c.args.dir.now in
-    let refuses = g.D.WorkDir.refuses c.args.dir.now in
-    let told : List ℕ → ErrorKind → Type 0 = λ path kind. (d : g.row.D.Denot) × g.D.WorkDir.refuses d path kind in
+    let lists = g.D.DirView.lists c.args.dir.now in
+    let looks = g.D.DirView.looks c.args.dir.now in
+    let reads = g.D.DirView.reads c.args.dir.now in
+    let lacks = g.D.DirView.lacks c.args.dir.now in
+    let refuses = g.D.DirView.refuses c.args.dir.now in
+    let told : List ℕ → ErrorKind → Type 0 = λ path kind. (d : g.row.D.Denot) × g.D.DirView.refuses d path kind in
     let options = c.args.options.now in
     let before = g.D.WorkDir.done c.args.dir.now in let after = g.D.WorkDir.done c.carry_out.new.dir in
     let run = c.in_ok-run.field-0.run in let plan = c.in_ok-run.field-0.plan in

@@ -5,9 +5,9 @@ use Rattle.redo_run.proofs.loading.load.Goals as goal
 
 pub returns-in-Err-clause-unread : goal.returns-in-Err-clause-unread
 returns-in-Err-clause-unread g c =
-    let lists = g.D.WorkDir.lists c.args.dir.now in
-    let looks = g.D.WorkDir.looks c.args.dir.now in
-    let reads = g.D.WorkDir.reads c.args.dir.now in
-    let refuses = g.D.WorkDir.refuses c.args.dir.now in
+    let lists = g.D.DirView.lists c.args.dir.now in
+    let looks = g.D.DirView.looks c.args.dir.now in
+    let reads = g.D.DirView.reads c.args.dir.now in
+    let refuses = g.D.DirView.refuses c.args.dir.now in
     subst (IsUnread lists looks reads refuses) (sym c.unread.ensures)
     (whole_unread lists looks reads refuses c.in-Err.fault c.in-Err.ensures.fault)

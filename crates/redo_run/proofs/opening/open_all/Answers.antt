@@ -10,8 +10,8 @@ pub returns-clause-opened : goal.returns-clause-opened
 returns-clause-opened g c =
     let dir = c.args.dir.now in
     let wanted : Wanted = record { all = true; paths = c.new.result } in
-    opened_all (g.D.WorkDir.lists dir) (g.D.WorkDir.looks dir) (g.D.WorkDir.reads dir) (g.D.WorkDir.refuses dir)
-    (g.D.WorkDir.lacks dir) (wants wanted) c.in_ok-tree.tree c.args.names.now.passed c.in_ok-open_over.field-0
+    opened_all (g.D.DirView.lists dir) (g.D.DirView.looks dir) (g.D.DirView.reads dir) (g.D.DirView.refuses dir)
+    (g.D.DirView.lacks dir) (wants wanted) c.in_ok-tree.tree c.args.names.now.passed c.in_ok-open_over.field-0
     c.in_ok-tree.ensures.loaded c.in_ok-tree.ensures.own c.in_ok-open_over.ensures.opened
     (λ p. refl)
 
@@ -21,6 +21,6 @@ returns-in_err-open_over-clause-fault g c =
     let dir = c.args.dir.now in
     let wanted : Wanted = record { all = true; paths = c.new.result } in
     let p = err_from_is_err_and c.from_residual-in_err-open_over.result c.from_residual-in_err-open_over.ensures.1 in
-    rw (p.1, p.2) (refused_unopened (g.D.WorkDir.lists dir) (g.D.WorkDir.looks dir) (g.D.WorkDir.reads dir) (g.D.WorkDir.refuses dir)
+    rw (p.1, p.2) (refused_unopened (g.D.DirView.lists dir) (g.D.DirView.looks dir) (g.D.DirView.reads dir) (g.D.DirView.refuses dir)
     wanted refl c.in_ok-tree.tree c.args.names.now.passed c.in_err-open_over.field-0.0 c.in_ok-tree.ensures.loaded
     c.in_err-open_over.ensures.refused)

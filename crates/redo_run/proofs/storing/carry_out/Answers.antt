@@ -9,7 +9,7 @@ use Rattle.redo_run.proofs.storing.carry_out.Goals as goal
 
 pub returns-in_err-clear_left-clause-part : goal.returns-in_err-clear_left-clause-part
 returns-in_err-clear_left-clause-part g c =
-    let told : List ℕ → ErrorKind → Type 0 = λ path kind. (d : g.row.D.Denot) × g.D.WorkDir.refuses d path kind in
+    let told : List ℕ → ErrorKind → Type 0 = λ path kind. (d : g.row.D.Denot) × g.D.DirView.refuses d path kind in
     let before = g.D.WorkDir.done c.args.dir.now in let after = g.D.WorkDir.done c.clear_left.new.dir in
     let left : List Step = steps_left c.args.plan.now in let new : List Step = steps_new c.args.tree.now c.args.plan.now in
     let fault = c.in_err-clear_left.field-0.0 in
@@ -22,7 +22,7 @@ part_of told left new before mid after (Err fault) m h = new_is_part told left n
 
 pub returns-clause-part : goal.returns-clause-part
 returns-clause-part g c =
-    let told : List ℕ → ErrorKind → Type 0 = λ path kind. (d : g.row.D.Denot) × g.D.WorkDir.refuses d path kind in
+    let told : List ℕ → ErrorKind → Type 0 = λ path kind. (d : g.row.D.Denot) × g.D.DirView.refuses d path kind in
     let done = g.D.WorkDir.done in
     part_of told (steps_left c.args.plan.now) (steps_new c.args.tree.now c.args.plan.now) (done c.args.dir.now) (done c.clear_left.new.dir) (done c.store.new.dir) c.store.result
     c.in_ok-clear_left.ensures.all c.store.ensures.part

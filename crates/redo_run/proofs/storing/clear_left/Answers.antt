@@ -10,7 +10,7 @@ use Rattle.redo_run.proofs.storing.clear_left.Goals as goal
 
 pub returns-in-Err-clause-part : goal.returns-in-Err-clause-part
 returns-in-Err-clause-part g c =
-    let told : List ℕ → ErrorKind → Type 0 = λ path kind. (d : g.row.D.Denot) × g.D.WorkDir.refuses d path kind in
+    let told : List ℕ → ErrorKind → Type 0 = λ path kind. (d : g.row.D.Denot) × g.D.DirView.refuses d path kind in
     let before = g.D.WorkDir.done c.args.dir.now in let after = g.D.WorkDir.done c.clear.new.dir in
     let plan = c.args.plan.now in let left = c.in-Some.left in
     let steps : List Step = steps_to_clear plan.over left.book left.own.items in

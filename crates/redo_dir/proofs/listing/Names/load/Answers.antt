@@ -8,5 +8,5 @@ returns-clause-fault g c =
     let names = c.args.self.now in let dir = c.args.dir.now in
     let same : c.deref_mut.result.now ≡ names.found.items = search rules in
     c.tree_with.ensures.fault names.passed
-    (subst (λ (ps : List Place). IsListed (g.D.WorkDir.lists dir) (g.D.WorkDir.looks dir) (found_in ps) names.passed)
+    (subst (λ (ps : List Place). IsListed (g.D.DirView.lists dir) (g.D.DirView.looks dir) (found_in ps) names.passed)
     (sym same) c.requires.names.0)

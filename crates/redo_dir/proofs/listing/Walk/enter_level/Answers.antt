@@ -10,5 +10,5 @@ returns-clause-refused g c =
     let looked = c.look_by.new.names in
     let len : length names ≡ c.replace-names.result.len = search rules in
     let written = take_at looked _ c.replace-names.result.len (kept_length names looked c.look_by.ensures.paths ∙ len) in
-    stopped_names (g.D.WorkDir.looks c.args.work.now) (g.D.WorkDir.refuses c.args.work.now) _ looked c.receive_names.result
+    stopped_names (g.D.DirView.looks c.args.work.now) (g.D.DirView.refuses c.args.work.now) _ looked c.receive_names.result
     written c.look_by.ensures.looked c.receive_names.ensures.stops

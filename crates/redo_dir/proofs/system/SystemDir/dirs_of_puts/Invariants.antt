@@ -10,6 +10,6 @@ use Rattle.redo_dir.proofs.system.SystemDir.dirs_of_puts.Given as goal
 abbrev pub invariant-loop-change : goal.invariant-loop-change
 invariant-loop-change g l = record {
   items : l.change-items ≡ l.self.done.items;
-  covered : AllByRecursion (IsCovered l.self.top.now (map path_buf_bytes l.places.items)) (steps_of (take l.change-index l.change-items));
-  last : IfSome (option_copied l.last) (λ dir. IsAmong (map path_buf_bytes l.places.items) (path_join l.self.top.now dir));
+  covered : AllByRecursion (IsCovered l.self.view.top.now (map path_buf_bytes l.places.items)) (steps_of (take l.change-index l.change-items));
+  last : IfSome (option_copied l.last) (λ dir. IsAmong (map path_buf_bytes l.places.items) (path_join l.self.view.top.now dir));
 }

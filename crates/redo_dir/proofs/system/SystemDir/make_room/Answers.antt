@@ -7,4 +7,4 @@ pub invariant_of-self : goal.invariant_of-self
 invariant_of-self g c =
     let self = c.args.self.now in
     let same : steps_of c.reserve.new.self.items ≡ steps_of self.done.items = search rules in
-    record { told = told_same g.C.Calls.after self.top.now self.access self.calls (steps_of self.done.items) (steps_of c.reserve.new.self.items) self.told same }
+    record { told = told_same g.C.Calls.after g.C.Closed.ClosedFile.stood self.view.top.now self.synced self.view.calls (steps_of self.done.items) (steps_of c.reserve.new.self.items) self.told same }

@@ -1,7 +1,7 @@
 use Rattle.std.proofs.Common.{◌∙◌, ap, ap₂}
 use Rattle.std.specs.Path.{path_join}
 use Rattle.redo_dir.proofs.ReadingLemmas.{joined-to-nothing}
-use Rattle.redo_dir.proofs.system.SystemDir.place.Goals as goal
+use Rattle.redo_dir.proofs.view.SystemView.place.Goals as goal
 
 pub returns-clause-place : goal.returns-clause-place
 returns-clause-place g c =
