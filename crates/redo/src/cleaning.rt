@@ -1,5 +1,12 @@
 //! The clean of a directory.
 
+ghost use Rattle.std.specs.Prelude.{IfOk, OnOk};
+ghost use Rattle.redo.specs.Cleaning.{IsDoneBy, IsPlanOf};
+ghost use Rattle.redo_clean.specs.Cleaned.{AnsweredWhile};
+ghost use Rattle.redo_clean.specs.declared.planning.CleanPlan.{CleanPlan};
+ghost use Rattle.redo_dir.specs.Loaded.{Leads};
+ghost use Rattle.redo_run.specs.Opening.{IsOpened};
+
 use crate::lock;
 use crate::status::Fault;
 use crate::unseen::Unseen;
@@ -21,7 +28,10 @@ fn plan_of<H: Runtime + Threads + Sync, D: DirView + Sync>(
     dir: &D,
     workers: usize,
     cause: &mut Cause,
-) -> Result<(CleanPlan, u64), Fault> {
+) -> Result<(CleanPlan, u64), Fault>
+    ensures plan { IfOk result (λ planned.
+        IsPlanOf (IsOpened (D.lists dir.now) (D.looks dir.now) (D.reads dir.now) (D.lacks dir.now)) planned.0) }
+{
     let Opened {
         past,
         left,
@@ -48,14 +58,22 @@ pub(crate) fn clean_by_plan<D: WorkDir, H: Runtime>(
     dir: &mut D,
     plan: &CleanPlan,
     cause: &mut Cause,
-) -> Result<(), Fault> {
+) -> Result<(), Fault>
+    ensures cleaned { OnOk result (IsDoneBy (AnsweredWhile D.done (λ d. Leads (D.looks d) (D.reads d)))
+        (AnsweredWhile D.done D.refuses) plan.now (D.done dir.old) (D.done dir.new)) }
+{
     let mut fates = Vec::new(alloc);
     let outcome = clean(alloc, dir, plan, &mut fates);
     print(rt, &cleaned_text(alloc, plan, &fates)?)?;
     match outcome {
         Ok(()) => Ok(()),
         Err(CleanFault::Memory | CleanFault::Left(StoreFault::Memory(_))) => Err(Fault::Memory),
-        Err(CleanFault::Left(_)) => Err(Fault::Left),
+        Err(CleanFault::Left(fault)) => {
+            if let Some(left) = &plan.left {
+                cause.note_left(left, fault);
+            }
+            Err(Fault::Left)
+        }
         Err(CleanFault::Device(path, said)) => {
             cause.place.clear();
             cause.place.extend_from_slice(path.text())?;
@@ -89,7 +107,12 @@ fn clean_by<D: WorkDir + Sync, H: Runtime + Threads + Sync>(
     dir: &mut D,
     workers: usize,
     cause: &mut Cause,
-) -> Result<u64, Fault> {
+) -> Result<u64, Fault>
+    ensures cleaned { OnOk result ((plan : CleanPlan) ×
+        IsPlanOf (IsOpened (D.lists dir.old) (D.looks dir.old) (D.reads dir.old) (D.lacks dir.old)) plan ×
+        IsDoneBy (AnsweredWhile D.done (λ d. Leads (D.looks d) (D.reads d)))
+        (AnsweredWhile D.done D.refuses) plan (D.done dir.old) (D.done dir.new)) }
+{
     let (plan, passed) = plan_of(rt, alloc, dir, workers, cause)?;
     clean_by_plan(rt, alloc, dir, &plan, cause)?;
     Ok(passed)

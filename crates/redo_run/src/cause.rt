@@ -81,7 +81,7 @@ impl Cause {
     }
 
     /// Notes which file couldn't be cleared away of what a run has left, or that its book couldn't be put in its place.
-    pub(crate) fn note_left(&mut self, left: &Left, fault: StoreFault) {
+    pub fn note_left(&mut self, left: &Left, fault: StoreFault) {
         let StoreFault::Device(place, said) = fault else {
             return;
         };
