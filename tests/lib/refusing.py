@@ -90,18 +90,23 @@ class Loaded:
             os.close(file)
 
 
+def library(room, name):
+    """Makes the library of this name, which is loaded into the program, in a directory. Answers its path."""
+    kit = os.path.dirname(subprocess.run(["rt", "doc"], stdout=subprocess.PIPE, check=True).stdout.decode())
+    source = os.path.join(os.path.dirname(os.path.abspath(__file__)), name + ".c")
+    how = "-shared -fPIC -O2 -nostdlib -fuse-ld=lld".split()
+    subprocess.run([kit + "/toolchain/bin/clang", *how, "-o", f"{room}/{name}.so", source], check=True)
+    return f"{room}/{name}.so"
+
+
 class Refusing:
     """A library that refuses calls."""
 
     def __init__(self):
         self.room = tempfile.TemporaryDirectory()
-        self.library = self.room.name + "/refuse.so"
+        self.library = library(self.room.name, "refuse")
         # Each thread has a process of its own for each program.
         self.own, self.loaded = threading.local(), []
-        kit = os.path.dirname(subprocess.run(["rt", "doc"], stdout=subprocess.PIPE, check=True).stdout.decode())
-        source = os.path.join(os.path.dirname(os.path.abspath(__file__)), "refuse.c")
-        how = "-shared -fPIC -O2 -nostdlib -fuse-ld=lld".split()
-        subprocess.run([kit + "/toolchain/bin/clang", *how, "-o", self.library, source], check=True)
 
     def close(self):
         for it in self.loaded:
