@@ -3,7 +3,8 @@ calls. The calls are recorded by a library that is loaded into the program (`eff
 
     ("create", path)    ("write", path, bytes)    ("sync", path)    ("rename", from, to)    ("remove", path)
 
-where a sync is one of a file or of a directory, and the path of the tree itself is `.`."""
+where a sync is one of a file or of a directory, and the path of the tree itself is `.`. Between two runs there may be
+edits, `("edit", path, bytes)`, of files that no run changes; they are on the disk at once."""
 
 import os
 import struct
@@ -11,7 +12,7 @@ import subprocess
 import sys
 import tempfile
 from collections import namedtuple
-from itertools import chain, combinations, product
+from itertools import chain, combinations, islice, product
 
 sys.dont_write_bytecode = True
 from lib.program import run
@@ -157,6 +158,8 @@ class Disk:
             self.change([path], {what[0]: self.names[path]})
         elif kind == "remove" and path in self.names:
             self.change([path], {})
+        elif kind == "edit" and self.before.get(path) is not None and self.names.get(path) == self.before[path]:
+            self.before, self.names = ({**it, path: what[0]} for it in (self.before, self.names))
         else:
             raise ValueError(f"what comes of {kind} {path} isn't known")
 
@@ -202,9 +205,11 @@ def cut_behind(before, effects, system):
     return trees({*disk.left()})
 
 
-def cut(before, effects, system):
-    """The same where it is cut at any moment: before, between or behind these effects."""
-    return trees({names for disk in moments(before, effects, system) for names in disk.left()})
+def cut(before, effects, system, first=0):
+    """The same where it is cut at any moment: before, between or behind these effects, of which the first ones were
+    made in any case."""
+    later = islice(moments(before, effects, system), first, None)
+    return trees({names for disk in later for names in disk.left()})
 
 
 def followed(before, effects):

@@ -76,17 +76,17 @@ noted (Ok x) old new change e ok = ap steps_of e ∙ map-append step_of old (cha
 noted (Err x) old new change e ok = search rules
 
 -- a journal that isn't one, since its name can't be waited for
-pub told_undone : {C F E : Type 0} (after : C → List Call → Type 0) (stood : F → List ℕ → Found → Type 0) (top : List ℕ) (waits : Bool) (old mid late new : C) (text : List ℕ) (answer : Option ErrorKind) (steps : List Step) (r : Result (Unit {0}) E) → HasDone after stood top waits old steps → Follows after old (Stays (path_join top journal_path) text true ∷ []) mid → Follows after mid (Syncs (path_join top []) answer ∷ []) late → is_waited_for answer ≡ false → OnOk r (Follows after late (Unlinks (path_join top journal_path) ∷ []) new) → OnErr r (Keeps after late new) → HasDone after stood top waits new steps
-told_undone after stood top waits old mid late new text answer steps (Ok x) h f s w gone kept =
-    let stays = Stays (path_join top journal_path) text true in
+pub told_undone : {C F E : Type 0} (after : C → List Call → Type 0) (stood : F → List ℕ → Found → Type 0) (top : List ℕ) (waits : Bool) (old mid late new : C) (text : List ℕ) (mode : Option ℕ) (answer : Option ErrorKind) (steps : List Step) (r : Result (Unit {0}) E) → HasDone after stood top waits old steps → Follows after old (Stays (path_join top journal_path) text true mode ∷ []) mid → Follows after mid (Syncs (path_join top []) answer ∷ []) late → is_waited_for answer ≡ false → OnOk r (Follows after late (Unlinks (path_join top journal_path) ∷ []) new) → OnErr r (Keeps after late new) → HasDone after stood top waits new steps
+told_undone after stood top waits old mid late new text mode answer steps (Ok x) h f s w gone kept =
+    let stays = Stays (path_join top journal_path) text true mode in
     let syncs = Syncs (path_join top []) answer in
     let unlinks = Unlinks (path_join top journal_path) in
     told_idle after stood top waits old new (stays ∷ syncs ∷ unlinks ∷ []) steps steps h
     (follows_both after old late new (stays ∷ syncs ∷ []) (unlinks ∷ []) (follows_both after old mid late (stays ∷ []) (syncs ∷ []) f s) gone)
-    (inr (text, answer, unlinks ∷ [], w, inr refl, refl)) refl
-told_undone after stood top waits old mid late new text answer steps (Err x) h f s w gone kept =
-    let stays = Stays (path_join top journal_path) text true in
+    (inr (text, mode, answer, unlinks ∷ [], w, inr refl, refl)) refl
+told_undone after stood top waits old mid late new text mode answer steps (Err x) h f s w gone kept =
+    let stays = Stays (path_join top journal_path) text true mode in
     let syncs = Syncs (path_join top []) answer in
     told_idle after stood top waits old new (stays ∷ syncs ∷ []) steps steps h
     (follows_kept after old late new (stays ∷ syncs ∷ []) (follows_both after old mid late (stays ∷ []) (syncs ∷ []) f s) kept)
-    (inr (text, answer, [], w, inl refl, refl)) refl
+    (inr (text, mode, answer, [], w, inl refl, refl)) refl

@@ -1,10 +1,16 @@
 -- Errors of calls that were to change something.
 use Rattle.std.proofs.Common.{◌≡◌, ◌⊎◌, inl, inr, ℕ, List, ap}
 use Rattle.std.specs.Path.{path_join, path_with_file_name}
+use Rattle.std.specs.Prelude.{Err, IfErr, Ok, Result}
 use Rattle.std.specs.declared.io.ErrorKind.{ErrorKind}
 use Rattle.std.specs.declared.io.ErrorKind.TheVariants.{AlreadyExists}
 use Rattle.redo_which.specs.Candidates.{book_path, journal_path}
 use Rattle.redo_dir.specs.Refused.{AnyFails, Failed, Fails, IsUnchanged, is_of_redo_at_change}
+
+-- what an error tells tells another thing
+pub err_to : {A E : Type 0} (P Q : E → Type 0) (r : Result A E) → IfErr r P → ((error : E) → P error → Q error) → IfErr r Q
+err_to P Q (Ok x) h to = tt
+err_to P Q (Err error) h to = to error h
 
 -- a call at the path's own place
 pub at_path : (fails : Fails) (top path place : List ℕ) (kind : ErrorKind) → place ≡ path_join top path → fails place kind → IsUnchanged fails top path kind

@@ -21,8 +21,9 @@ pub data Call : Type 0 where
   -- the new file at the first place, to which these bytes were written whole (and waited for, or not), and which has this
   -- mode (none: that with which it was made), got the second
   Names : List ℕ → List ℕ → Bool → Option ℕ → List ℕ → Call
-  -- the new file at this place, to which these bytes were written whole (and waited for, or not), is to stay there
-  Stays : List ℕ → List ℕ → Bool → Call
+  -- the new file at this place, to which these bytes were written whole (and waited for, or not), and which has this mode,
+  -- is to stay there
+  Stays : List ℕ → List ℕ → Bool → Option ℕ → Call
   -- what was at the first place got the second
   Renames : List ℕ → List ℕ → Call
   -- the name at this place was taken away
@@ -81,37 +82,42 @@ pub record AreOnDisk (places : List (List ℕ)) (waits : List Wait) : Type 0 whe
   pub asked : map (λ w. w.0) waits ≡ places
   pub each : AllByRecursion (λ w. is_waited_for w.1 ≡ true) waits
 
--- the directory in which a step gave a file its name
-abbrev pub dir_put : Step → Option (List ℕ)
-dir_put (Puts path bytes over) = parent_of path
-dir_put (Journals text) = None
-dir_put Finishes = None
-dir_put (Removes path) = None
+-- the directory in which a step gave a file its name, or took one away
+abbrev pub dir_changed : Step → Option (List ℕ)
+dir_changed (Puts path bytes over) = parent_of path
+dir_changed (Journals text) = None
+dir_changed Finishes = None
+dir_changed (Removes path) = parent_of path
 
 -- a place is one of these
 abbrev pub IsAmong : List (List ℕ) → List ℕ → Type 0
 IsAmong [] place = ⊥
 IsAmong (p ∷ ps) place = (p ≡ place) ⊎ IsAmong ps place
 
--- the directory in which a step gave a file its name is one of these, below top
+-- the directory in which a step changed a name is one of these, below top
 abbrev pub IsCovered : List ℕ → List (List ℕ) → Step → Type 0
-IsCovered top places step = IfSome (dir_put step) (λ dir. IsAmong places (path_join top dir))
+IsCovered top places step = IfSome (dir_changed step) (λ dir. IsAmong places (path_join top dir))
+
+-- a file and its directory are among these places, below top
+abbrev pub IsSettling : List ℕ → List (List ℕ) → List ℕ → Type 0
+IsSettling top places path = IsAmong places (path_join top path) × IfSome (parent_of path) (λ dir. IsAmong places (path_join top dir))
 
 -- calls that come to no step: looks and waits
 abbrev pub IsIdle : Call → Type 0
 IsIdle (Names from bytes synced mode to) = ⊥
-IsIdle (Stays place bytes synced) = ⊥
+IsIdle (Stays place bytes synced mode) = ⊥
 IsIdle (Renames from to) = ⊥
 IsIdle (Unlinks place) = ⊥
 IsIdle (Syncs place answer) = Unit {0}
 IsIdle (Finds place found) = Unit {0}
 
 -- In the directory at top these calls are that step, behind those before it. A file that takes another's place has its
--- mode. A run that waits for its files makes the journal the book once the names that it gave are on the disk.
+-- mode, and a journal the old book's. A run that waits for its files makes the journal the book, or removes a journal or
+-- the book, once the names that it changed are on the disk.
 abbrev pub IsStep : Stood → List ℕ → Bool → List Step → List Call → Step → Type 0
 IsStep stood top waits before calls (Journals text) =
-    (answer : Option ErrorKind) × (is_waited_for answer ≡ true) ×
-    (calls ≡ Stays (path_join top journal_path) text true ∷ Syncs (path_join top []) answer ∷ [])
+    (answer : Option ErrorKind) × (mode : Option ℕ) × (is_waited_for answer ≡ true) × IsReady stood (path_join top book_path) mode ×
+    (calls ≡ Stays (path_join top journal_path) text true mode ∷ Syncs (path_join top []) answer ∷ [])
 IsStep stood top waits before calls (Puts path bytes true) =
     (from : List ℕ) × (synced : Bool) × (mode : Option ℕ) × IsWaitedAs waits path synced × IsReady stood (path_join top path) mode ×
     (calls ≡ Names from bytes synced mode (path_join top path) ∷ [])
@@ -124,16 +130,17 @@ IsStep stood top waits before calls Finishes =
     (waits ≡ true → AllByRecursion (IsCovered top places) before) ×
     (calls ≡ map call_of waited ++ Renames (path_join top journal_path) (path_join top book_path) ∷ [])
 IsStep stood top waits before calls (Removes path) =
-    ((path ≢ journal_path) × (calls ≡ Unlinks (path_join top path) ∷ [])) ⊎
-    ((answer : Option ErrorKind) × (is_waited_for answer ≡ true) × (path ≡ journal_path) ×
-    (calls ≡ Syncs (path_join top []) answer ∷ Unlinks (path_join top path) ∷ []))
+    ((path ≢ journal_path) × (waits ≡ true → path ≢ book_path) × (calls ≡ Unlinks (path_join top path) ∷ [])) ⊎
+    ((places : List (List ℕ)) × (waited : List Wait) × AreOnDisk places waited × ((path ≡ journal_path) ⊎ (path ≡ book_path)) ×
+    IsAmong places (path_join top []) × (waits ≡ true → AllByRecursion (IsCovered top places) before) ×
+    (calls ≡ map call_of waited ++ Unlinks (path_join top path) ∷ []))
 
 -- A journal that isn't one, since its name can't be waited for, is taken away if it can be.
 abbrev pub IsUndone : List ℕ → List Call → Type 0
 IsUndone top calls =
-    (text : List ℕ) × (answer : Option ErrorKind) × (gone : List Call) × (is_waited_for answer ≡ false) ×
+    (text : List ℕ) × (mode : Option ℕ) × (answer : Option ErrorKind) × (gone : List Call) × (is_waited_for answer ≡ false) ×
     ((gone ≡ []) ⊎ (gone ≡ Unlinks (path_join top journal_path) ∷ [])) ×
-    (calls ≡ Stays (path_join top journal_path) text true ∷ Syncs (path_join top []) answer ∷ gone)
+    (calls ≡ Stays (path_join top journal_path) text true mode ∷ Syncs (path_join top []) answer ∷ gone)
 
 -- calls that belong together, behind the steps before them, and the steps that they are: one or none
 abbrev pub IsPart : Stood → List ℕ → Bool → List Step → List Call → List Step → Type 0
@@ -169,6 +176,17 @@ pub record Does (stood : Stood) (top : List ℕ) (waits : Bool) (log : List Call
 abbrev pub HasDone : {C F : Type 0} → (C → List Call → Type 0) → (F → List ℕ → Found → Type 0) → List ℕ → Bool → C → List Step → Type 0
 HasDone {C} {F} after stood top waits calls steps =
     ∥ ((log : List Call) × after calls log × Does (λ place found. (file : F) × stood file place found) top waits log steps) ∥₁
+
+-- a place was waited for, and what it has is on the disk
+abbrev pub IsWaited : List Call → List ℕ → Type 0
+IsWaited log place = (before behind : List Call) × (answer : Option ErrorKind) × (is_waited_for answer ≡ true) ×
+    (log ≡ before ++ Syncs place answer ∷ behind)
+
+-- so far a file and its name were waited for, below top
+abbrev pub HasSettled : {C : Type 0} → (C → List Call → Type 0) → List ℕ → C → List ℕ → Type 0
+HasSettled after top calls path =
+    ∥ ((log : List Call) × after calls log × IsWaited log (path_join top path) ×
+    IfSome (parent_of path) (λ dir. IsWaited log (path_join top dir))) ∥₁
 
 -- the bytes that are read of a file of this size; some file systems say 0 where they know none
 abbrev pub front_read : ℕ → List ℕ → List ℕ

@@ -1,6 +1,7 @@
 -- How a run stores: by a journal, so that the next run knows its files where it is broken off.
 use Rattle.std.specs.Prelude.{◌≡◌, ◌++◌, ℕ, suc, Bool, List, [], ◌∷◌, Option, Some, None, Result, Ok, Err, length, map}
 use Rattle.std.specs.Prelude.{slice_get}
+use Rattle.std.specs.List.{AllByRecursion}
 use Rattle.std.specs.declared.io.ErrorKind.{ErrorKind}
 use Rattle.redo_tree.specs.Tree.{Tree}
 use Rattle.redo_which.specs.Candidates.{book_path, journal_path}
@@ -51,6 +52,16 @@ paths_to_clear (Some text) own = book_path ∷ own
 abbrev pub cleared_count : Result (Unit {0}) StoreFault → List (List ℕ) → ℕ
 cleared_count (Ok x) paths = length paths
 cleared_count (Err fault) paths = place_of fault
+
+-- The last of these steps was done once the files at some paths were on the disk, with their names: they were when all
+-- steps before it had been done, and no other.
+pub record IsSettled {D : Type 0} (done : D → List Step) (settled : D → List ℕ → Type 0) (paths : List (List ℕ)) (steps : List Step) : Type 0 where
+  pub front : List Step
+  pub last : Step
+  pub are : steps ≡ front ++ last ∷ []
+  pub dir : D
+  pub when : done dir ≡ front
+  pub each : AllByRecursion (settled dir) paths
 
 -- where it can't be cleared away, a call at the path of that step was refused, or memory ran out
 abbrev pub IsUncleared : (List ℕ → ErrorKind → Type 0) → List (List ℕ) → StoreFault → Type 0

@@ -157,8 +157,9 @@ pub trait Calls: ReadCalls {
 
     /// Leaves a new file where it is. The system isn't called.
     fn keep(&mut self, file: &Self::Closed, place: &PathBuf)
-        ensures { (text : List ℕ) (synced : Bool) → Self.Closed.holds file.now (path_buf_bytes place.now) text synced →
-            Follows after self.old (Stays (path_buf_bytes place.now) text synced ∷ []) self.new };
+        ensures { (text : List ℕ) (synced : Bool) (mode : Option ℕ) →
+            Self.Closed.holds file.now (path_buf_bytes place.now) text synced → Self.Closed.has file.now mode →
+            Follows after self.old (Stays (path_buf_bytes place.now) text synced mode ∷ []) self.new };
 
     /// Gives what is at a place the other name, also where something has it.
     fn rename(&mut self, from: &PathBuf, to: &PathBuf) -> io::Result<()>

@@ -1,11 +1,11 @@
 //! A directory of the system, as a run works in it.
 
 ghost use Rattle.std.specs.Path.{path_buf_bytes, path_join, path_with_file_name};
-ghost use Rattle.std.specs.Prelude.{◌≡◌, ◌≢◌, ◌++◌, ◌∷◌, ◌<◌, [], IfErr, IfOk, OnErr, OnOk, Bool, Option, Some, false, map, option_copied, string_bytes, true, vec_capacity, vec_len, ℕ};
+ghost use Rattle.std.specs.Prelude.{◌≡◌, ◌≢◌, ◌⊎◌, ◌++◌, ◌∷◌, ◌<◌, [], IfErr, IfOk, List, OnErr, OnOk, Bool, Option, Some, false, map, option_copied, string_bytes, true, vec_capacity, vec_len, ℕ};
 ghost use Rattle.std.specs.IoError.{error_kind};
 ghost use Rattle.std.specs.List.{AllByRecursion};
 ghost use Rattle.std.specs.declared.io.ErrorKind.{ErrorKind};
-ghost use Rattle.redo_dir.specs.Called.{HasDone, IsCovered, IsReady, IsWaitedAs, dir_put};
+ghost use Rattle.redo_dir.specs.Called.{HasDone, HasSettled, IsAmong, IsCovered, IsReady, IsSettling, IsWaitedAs, dir_changed};
 ghost use Rattle.redo_dir.specs.Refused.{AnyFails, IsUnchanged, is_of_redo, is_of_redo_at_change};
 ghost use Rattle.redo_dir.specs.Stored.{Finishes, IsNamed, Journals, Puts, Removes, put_of, step_of, steps_of};
 ghost use Rattle.redo_which.specs.Candidates.{book_path, journal_path};
@@ -91,12 +91,12 @@ fn note(done: &mut Vec<Change>, change: Change)
     let _noted = done.push(change);
 }
 
-/// The directory of a file that got its name by this change.
+/// The directory in which this change gave a file its name, or took one away.
 fn dir_of(change: &Change) -> Option<&[u8]>
-    ensures { option_copied result ≡ dir_put (step_of change.now) }
+    ensures { option_copied result ≡ dir_changed (step_of change.now) }
 {
     match change {
-        Change::Put(path, _, _) => path.parent_text(),
+        Change::Put(path, _, _) | Change::Remove(path) => path.parent_text(),
         _ => None,
     }
 }
@@ -127,7 +127,9 @@ impl<'a, R: Files> SystemDir<'a, SystemCalls<&'a R>> {
 }
 
 impl<'a, C: Calls> SystemDir<'a, C> {
-    fn with_calls(calls: C, alloc: Global, top: &'a str, synced: bool) -> SystemDir<'a, C>
+    /// The directory at this path, by these calls, of which none was made yet. If `synced`, each file is on the disk before
+    /// it gets its name.
+    pub fn with_calls(calls: C, alloc: Global, top: &'a str, synced: bool) -> SystemDir<'a, C>
         requires { C.after calls [] }
         ensures top { result.view.top.now ≡ top.now }
         ensures synced { result.synced ≡ synced }
@@ -159,8 +161,8 @@ impl<'a, C: Calls> SystemDir<'a, C> {
         self.synced || path.text() == BOOK
     }
 
-    /// The places of the directories of all files that were put.
-    fn dirs_of_puts(&self, alloc: Global) -> io::Result<Vec<PathBuf>>
+    /// The places of the directories in which names were changed.
+    fn dirs_of_changes(&self, alloc: Global) -> io::Result<Vec<PathBuf>>
         ensures covered { IfOk result (λ places.
             AllByRecursion (IsCovered self.now.view.top.now (map path_buf_bytes places.items)) (steps_of self.now.done.items)) }
         ensures own { IfErr result (λ error. is_of_redo (error_kind error) ≡ true) }
@@ -181,8 +183,8 @@ impl<'a, C: Calls> SystemDir<'a, C> {
         Ok(places)
     }
 
-    /// The places of the directories whose names are waited for before the run ends.
-    fn waits_at_end(&self, alloc: Global) -> io::Result<Vec<PathBuf>>
+    /// The places of the directories whose names are waited for before the journal becomes the book.
+    fn dirs_to_wait_for(&self, alloc: Global) -> io::Result<Vec<PathBuf>>
         ensures covered { IfOk result (λ places. self.now.synced ≡ true →
             AllByRecursion (IsCovered self.now.view.top.now (map path_buf_bytes places.items)) (steps_of self.now.done.items)) }
         ensures own { IfErr result (λ error. is_of_redo (error_kind error) ≡ true) }
@@ -190,7 +192,54 @@ impl<'a, C: Calls> SystemDir<'a, C> {
         if !self.synced {
             return Ok(Vec::new(alloc));
         }
-        self.dirs_of_puts(alloc)
+        self.dirs_of_changes(alloc)
+    }
+
+    /// The same before a journal or the book is removed. The top, where the recovered book has its name, is always one of
+    /// them.
+    fn dirs_before_removal(&self, alloc: Global) -> io::Result<Vec<PathBuf>>
+        ensures covered { IfOk result (λ places. self.now.synced ≡ true →
+            AllByRecursion (IsCovered self.now.view.top.now (map path_buf_bytes places.items)) (steps_of self.now.done.items)) }
+        ensures top { IfOk result (λ places. IsAmong (map path_buf_bytes places.items) (path_join self.now.view.top.now [])) }
+        ensures own { IfErr result (λ error. is_of_redo (error_kind error) ≡ true) }
+    {
+        let mut dirs = self.dirs_to_wait_for(alloc)?;
+        dirs.push(self.view.text_place(alloc, "")?)?;
+        Ok(dirs)
+    }
+
+    /// The places of these files and of their directories.
+    fn places_to_settle(&self, alloc: Global, paths: &[Path]) -> io::Result<Vec<PathBuf>>
+        ensures settling { IfOk result (λ places.
+            AllByRecursion (IsSettling self.now.view.top.now (map path_buf_bytes places.items)) paths.now) }
+        ensures own { IfErr result (λ error. is_of_redo (error_kind error) ≡ true) }
+    {
+        let mut places = Vec::new(alloc);
+        let mut last = None;
+        for path in paths {
+            places.push(self.view.place(alloc, path)?)?;
+            let Some(dir) = path.parent_text() else {
+                continue;
+            };
+            if is_last(last, dir) {
+                continue;
+            }
+            places.push(self.view.dir_place(alloc, dir)?)?;
+            last = Some(dir);
+        }
+        Ok(places)
+    }
+
+    /// Waits until what is at these places is on the disk.
+    fn wait_for(&mut self, places: &[PathBuf]) -> io::Result<()>
+        ensures settled { OnOk result ((path : List ℕ) → IsSettling self.old.view.top.now (map path_buf_bytes places.now) path →
+            HasSettled C.after self.new.view.top.now self.new.view.calls path) }
+        ensures kept { steps_of self.new.done.items ≡ steps_of self.old.done.items }
+        ensures tag { self.new.tag ≡ self.old.tag }
+        ensures refused { IfErr result (λ error. (path : List ℕ) → (path ≡ journal_path) ⊎ (path ≡ book_path) →
+            IsUnchanged (AnyFails C.fails C.Closed.made C.Closed.fails C.Closed.gone) self.old.view.top.now path (error_kind error)) }
+    {
+        sync_each(&mut self.view.calls, places)
     }
 
     /// Room for one change more, so that none is made that can't be noted.
@@ -204,10 +253,19 @@ impl<'a, C: Calls> SystemDir<'a, C> {
         self.done.reserve(1)
     }
 
+    /// Whether this file tells of others, so that it goes once these are on the disk: the journal, and the book in a run
+    /// that waits for its files.
+    fn tells_of_others(&self, path: &Path) -> bool
+        ensures yes { result ≡ true → (path.now ≡ journal_path) ⊎ (path.now ≡ book_path) }
+        ensures no { result ≡ false → (path.now ≢ journal_path) × (self.now.synced ≡ true → path.now ≢ book_path) }
+    {
+        path.text() == JOURNAL || (self.synced && path.text() == BOOK)
+    }
+
     /// Takes a name away, and notes that.
     fn take_away(&mut self, place: &PathBuf, path: &Path) -> io::Result<()>
         requires place { path_buf_bytes place.now ≡ path_join self.old.view.top.now path.now }
-        requires other { path.now ≢ journal_path }
+        requires other { (path.now ≢ journal_path) × (self.old.synced ≡ true → path.now ≢ book_path) }
         ensures removed { OnOk result (steps_of self.new.done.items ≡ steps_of self.old.done.items ++ Removes path.now ∷ []) }
         ensures kept { OnErr result (steps_of self.new.done.items ≡ steps_of self.old.done.items) }
         ensures tag { self.new.tag ≡ self.old.tag }
@@ -221,11 +279,13 @@ impl<'a, C: Calls> SystemDir<'a, C> {
         Ok(())
     }
 
-    /// Takes the journal away, and notes that. The book that was recovered by it has its name on the disk before.
-    fn take_journal_away(&mut self, place: &PathBuf, top: &PathBuf, path: &Path) -> io::Result<()>
+    /// Takes the journal or the book away, once the names in these directories are on the disk, and notes that.
+    fn take_away_last(&mut self, dirs: &[PathBuf], place: &PathBuf, path: &Path) -> io::Result<()>
+        requires dirs { self.old.synced ≡ true →
+            AllByRecursion (IsCovered self.old.view.top.now (map path_buf_bytes dirs.now)) (steps_of self.old.done.items) }
+        requires top { IsAmong (map path_buf_bytes dirs.now) (path_join self.old.view.top.now []) }
         requires place { path_buf_bytes place.now ≡ path_join self.old.view.top.now path.now }
-        requires top { path_buf_bytes top.now ≡ path_join self.old.view.top.now [] }
-        requires journal { path.now ≡ journal_path }
+        requires last { (path.now ≡ journal_path) ⊎ (path.now ≡ book_path) }
         ensures removed { OnOk result (steps_of self.new.done.items ≡ steps_of self.old.done.items ++ Removes path.now ∷ []) }
         ensures kept { OnErr result (steps_of self.new.done.items ≡ steps_of self.old.done.items) }
         ensures tag { self.new.tag ≡ self.old.tag }
@@ -234,7 +294,7 @@ impl<'a, C: Calls> SystemDir<'a, C> {
     {
         let change = Change::Remove(path.clone()?);
         self.done.reserve(1)?;
-        sync_names(&mut self.view.calls, top)?;
+        sync_each(&mut self.view.calls, dirs)?;
         self.view.calls.unlink(place)?;
         note(&mut self.done, change);
         Ok(())
@@ -269,6 +329,8 @@ impl<'a, C: Calls> SystemDir<'a, C> {
     ) -> io::Result<()>
         requires room { vec_len self.old.done < vec_capacity self.old.done }
         requires written { C.Closed.holds file.now (path_buf_bytes place.now) text true }
+        requires ready { (mode : Option ℕ) × C.Closed.has file.now mode ×
+            IsReady (C.Closed.stood file.now) (path_join self.old.view.top.now book_path) mode }
         requires place { path_buf_bytes place.now ≡ path_join self.old.view.top.now journal_path }
         requires top { path_buf_bytes top.now ≡ path_join self.old.view.top.now [] }
         ensures journal { OnOk result (steps_of self.new.done.items ≡ steps_of self.old.done.items ++ Journals text ∷ []) }
@@ -382,11 +444,15 @@ impl<'a, C: Calls> DirView for SystemDir<'a, C> {
 }
 
 impl<'a, C: Calls> WorkDir for SystemDir<'a, C> {
+    ghost use Rattle.std.specs.Prelude.{◌≡◌, true};
+    ghost use Rattle.redo_dir.specs.Called.{HasSettled};
     ghost use Rattle.redo_dir.specs.Stored.{steps_of};
 
     ghost done = { λ d. steps_of d.done.items };
 
     ghost tagged = { λ d. d.tag };
+
+    ghost settled = { λ d path. d.synced ≡ true → HasSettled C.after d.view.top.now d.view.calls path };
 
     type Draft = SystemDraft<'a, C::Closed>;
 
@@ -414,7 +480,7 @@ impl<'a, C: Calls> WorkDir for SystemDir<'a, C> {
     }
 
     fn finish(&mut self, alloc: Global) -> io::Result<()> {
-        let dirs = self.waits_at_end(alloc)?;
+        let dirs = self.dirs_to_wait_for(alloc)?;
         let journal = self.view.text_place(alloc, JOURNAL_NAME)?;
         let book = self.view.text_place(alloc, BOOK_NAME)?;
         self.take_over(&dirs, &journal, &book)
@@ -464,11 +530,19 @@ impl<'a, C: Calls> WorkDir for SystemDir<'a, C> {
 
     fn remove(&mut self, alloc: Global, path: &Path) -> io::Result<()> {
         let place = self.view.place(alloc, path)?;
-        if path.text() == JOURNAL {
-            let top = self.view.text_place(alloc, "")?;
-            return self.take_journal_away(&place, &top, path);
+        if self.tells_of_others(path) {
+            let dirs = self.dirs_before_removal(alloc)?;
+            return self.take_away_last(&dirs, &place, path);
         }
         self.take_away(&place, path)
+    }
+
+    fn settle(&mut self, alloc: Global, paths: &[Path]) -> io::Result<()> {
+        if !self.synced {
+            return Ok(());
+        }
+        let places = self.places_to_settle(alloc, paths)?;
+        self.wait_for(&places)
     }
 
     fn count(&self) -> usize {

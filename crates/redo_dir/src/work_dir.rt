@@ -2,6 +2,7 @@
 
 ghost use Rattle.std.specs.Prelude.{◌≡◌, ◌≢◌, ◌++◌, ◌∷◌, [], IfErr, IfOk, OnErr, OnOk, Some, length};
 ghost use Rattle.std.specs.IoError.{error_kind};
+ghost use Rattle.std.specs.List.{AllByRecursion};
 ghost use Rattle.std.specs.declared.io.ErrorKind.TheVariants.{NotFound};
 ghost use Rattle.redo_dir.specs.Loaded.{names_in};
 ghost use Rattle.redo_which.specs.Candidates.{book_path, journal_path};
@@ -89,6 +90,8 @@ pub trait WorkDir: DirView {
     ghost done: { Self → List Step };
     // The text of the journal by which temporary files are named, once there is one.
     ghost tagged: { Self → Option (List ℕ) };
+    // The file at a path and its name are on the disk, in a directory that waits for its files.
+    ghost settled: { Self → List ℕ → Type 0 };
 
     /// Writes the journal with this text, in its own place, and waits until it is on the disk. The error is
     /// `AlreadyExists` where something stands there. A run that is killed meanwhile may leave a beginning of it. From then
@@ -141,6 +144,15 @@ pub trait WorkDir: DirView {
         ensures kept { OnErr result (done self.new ≡ done self.old) }
         ensures tag { tagged self.new ≡ tagged self.old }
         ensures refused { IfErr result (λ error. Self.refuses self.old path.now (error_kind error)) };
+
+    /// Waits until these files and their names are on the disk, where the directory waits for its files: before a book that
+    /// tells of them takes its place, and before the journal goes that did.
+    fn settle(&mut self, alloc: Global, paths: &[Path]) -> io::Result<()>
+        ensures settled { OnOk result (AllByRecursion (settled self.new) paths.now) }
+        ensures kept { done self.new ≡ done self.old }
+        ensures tag { tagged self.new ≡ tagged self.old }
+        ensures refused { IfErr result (λ error.
+            Self.refuses self.old book_path (error_kind error) × Self.refuses self.old journal_path (error_kind error)) };
 
     /// How many calls changed the directory.
     fn count(&self) -> usize

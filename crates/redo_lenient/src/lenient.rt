@@ -147,6 +147,8 @@ impl<D: WorkDir> WorkDir for LenientDir<D> {
 
     ghost tagged = { λ d. D.tagged d.dir };
 
+    ghost settled = { λ d path. D.settled d.dir path };
+
     type Draft = D::Draft;
 
     fn journal(&mut self, alloc: Global, text: &Content) -> io::Result<()> {
@@ -177,6 +179,10 @@ impl<D: WorkDir> WorkDir for LenientDir<D> {
 
     fn remove(&mut self, alloc: Global, path: &Path) -> io::Result<()> {
         self.dir.remove(alloc, path)
+    }
+
+    fn settle(&mut self, alloc: Global, paths: &[Path]) -> io::Result<()> {
+        self.dir.settle(alloc, paths)
     }
 
     fn count(&self) -> usize {

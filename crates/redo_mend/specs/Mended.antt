@@ -14,7 +14,7 @@ use Rattle.redo_book.specs.declared.faults.BookFault.TheVariants.{Line, Memory}
 use Rattle.redo_dir.specs.Own.{is_own}
 use Rattle.redo_dir.specs.Stored.{Step}
 use Rattle.redo_dir.specs.Storing.{steps_to_clear}
-use Rattle.redo_mend.specs.Recovered.{IsRecovered}
+use Rattle.redo_mend.specs.Recovered.{IsRecovered, standing_by}
 
 -- the tree with this book's text in the book's place, without the own files of the run that wrote this journal
 pub record IsMended (tree : Tree) (text : List ℕ) (book : List Record) (mended : Tree) : Type 0 where
@@ -49,6 +49,13 @@ abbrev pub MendsTo : Tree → Tree → Type 0
 MendsTo tree mended =
     MatchOption (file_at tree journal_path) (mended ≡ tree)
     (λ text. IsRecoveredTree tree text mended ⊎ (IsPassedOver tree text × (mended ≡ without tree (journal_path ∷ []))))
+
+-- of a tree with a journal of this text these files are to be on the disk before another book tells of them: the journal,
+-- and those that stand as it tells; none where the journal is passed over
+abbrev pub AreToSettle : Tree → List ℕ → List (List ℕ) → Type 0
+AreToSettle tree text paths =
+    ((journal : List Record) × IsText text journal × (paths ≡ journal_path ∷ standing_by tree journal)) ⊎
+    (IsPassedOver tree text × (paths ≡ []))
 
 -- the tree can't be mended, unless memory ran out
 abbrev pub HasNoMended : BookFault → Tree → Type 0

@@ -5,7 +5,7 @@ ghost use Rattle.redo_tree.specs.Tree.{Directory, File, added, file_at, node_at,
 ghost use Rattle.redo_which.specs.Candidates.{book_path as path_of_book, journal_path as path_of_journal};
 ghost use Rattle.redo_book.specs.Book.{IsText};
 ghost use Rattle.redo_past.specs.Past.{RefusesBook};
-ghost use Rattle.redo_mend.specs.Mended.{HasNoMended, IsRecoveredTree, MendsTo};
+ghost use Rattle.redo_mend.specs.Mended.{AreToSettle, HasNoMended, IsPassedOver, IsRecoveredTree, MendsTo};
 ghost use Rattle.redo_mend.specs.Mended.{book_to_put as text_to_put, own_files};
 ghost use Rattle.redo_mend.specs.inside.Leaving.{HasLeft};
 
@@ -13,7 +13,7 @@ use crate::journal::journal_in;
 use crate::left::book_to_put;
 use crate::named::targets_named;
 use crate::own::temporaries;
-use crate::recovered::recovered_text;
+use crate::recovered::{recovered_text, to_settle};
 use redo_book::laws::a_book_has_no_fault;
 use redo_book::{Book, BookFault};
 use redo_dir::{Left, journal_path};
@@ -77,18 +77,21 @@ fn recover<R: Threads + Sync>(
     own.push(journal_path(alloc)?)?;
     let mended = with_book(alloc, &tree, &own, text)?;
     let book = book_to_put(alloc, &tree, &mended)?;
+    let to_settle = to_settle(alloc, &tree, &journal.book)?;
     Ok(Mended {
         tree: mended,
         left: Some(Left {
             journal: journal.text,
             book,
             own,
+            to_settle,
         }),
     })
 }
 
 /// The tree without a journal that is passed over.
 fn pass_over(alloc: Global, tree: &Tree, journal: Content) -> Result<Mended, AllocError>
+    requires { IsPassedOver tree.now journal }
     ensures tree { IfOk result (λ mended. mended.tree ≡ without tree.now (path_of_journal ∷ [])) }
     ensures left { IfOk result (HasLeft tree.now journal) }
 {
@@ -102,6 +105,7 @@ fn pass_over(alloc: Global, tree: &Tree, journal: Content) -> Result<Mended, All
             journal,
             book: None,
             own,
+            to_settle: Vec::new(alloc),
         }),
     })
 }
@@ -124,6 +128,7 @@ pub fn mend<R: Threads + Sync>(
         option_map (λ left. left.journal) mended.left ≡ file_at tree path_of_journal) }
     ensures book { IfOk result (λ mended. IfSome mended.left (λ left. left.book ≡ text_to_put tree mended.tree)) }
     ensures own { IfOk result (λ mended. IfSome mended.left (λ left. left.own.items ≡ own_files tree mended.tree)) }
+    ensures settle { IfOk result (λ mended. IfSome mended.left (λ left. AreToSettle tree left.journal left.to_settle.items)) }
     ensures refused { IfErr result (λ fault. RefusesBook fault tree) }
     ensures none { IfErr result (λ fault. HasNoMended fault tree) }
 {

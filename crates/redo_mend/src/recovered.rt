@@ -1,16 +1,17 @@
 //! The book that is put together of the old one and the journal, and its text.
 
-ghost use Rattle.std.specs.Prelude.{◌≡◌, ◌++◌, IfOk, List, OnOk, codes, false, flat_map, is_err, map, ℕ};
+ghost use Rattle.std.specs.Prelude.{◌≡◌, ◌∷◌, IfOk, List, OnOk, false, is_err, map, ℕ};
 ghost use Rattle.std.specs.Option.{option_or};
-ghost use Rattle.redo_tree.specs.Tree.{file_at};
 ghost use Rattle.redo_bundle.specs.Bundle.{Writes};
 ghost use Rattle.redo_book.specs.Book.{IsBook, Record, book_lines, record_of, text_of};
-ghost use Rattle.redo_mend.specs.Recovered.{IsRecovered, said_at};
+ghost use Rattle.redo_which.specs.Candidates.{journal_path};
+ghost use Rattle.redo_mend.specs.Recovered.{IsRecovered, said_at, standing_by};
 ghost use Rattle.redo_mend.specs.inside.Found.{AreFound, found_at};
 
 use redo_book::{Book, BookRecord, write_end, write_record};
 use redo_bundle::{Broken, ByteOut, Plain};
-use redo_past::is_intact;
+use redo_dir::journal_path as journal_of;
+use redo_past::{is_generated, is_intact};
 use redo_path::Path;
 use redo_tree::Tree;
 use std::alloc::{AllocError, Global};
@@ -68,6 +69,20 @@ fn write_book<W: ByteOut>(out: &mut W, records: &[&BookRecord]) -> Result<(), Br
         write_record(out, made)?;
     }
     write_end(out)
+}
+
+/// The journal, and the files that stand as it tells, in its order.
+pub(crate) fn to_settle(alloc: Global, tree: &Tree, journal: &Book) -> Result<Vec<Path>, AllocError>
+    ensures { IfOk result (λ paths. paths.items ≡ journal_path ∷ standing_by tree.now journal.now) }
+{
+    let mut paths = Vec::new(alloc);
+    paths.push(journal_of(alloc)?)?;
+    for made in journal.records() {
+        if is_generated(tree, made) {
+            paths.push(made.target.clone()?)?;
+        }
+    }
+    Ok(paths)
 }
 
 /// The text of the book that is recovered of a tree, a journal and an old book.

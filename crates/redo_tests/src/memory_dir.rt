@@ -163,6 +163,8 @@ impl WorkDir for MemoryDir {
 
     ghost tagged = { λ d. d.tag };
 
+    ghost settled = { λ _ _. Unit {0} };
+
     type Draft = MemoryDraft;
 
     fn journal(&mut self, alloc: Global, text: &Content) -> io::Result<()> {
@@ -222,6 +224,10 @@ impl WorkDir for MemoryDir {
         }
         self.done.push(Change::Remove(path.clone()?))?;
         Ok(())
+    }
+
+    fn settle(&mut self, _alloc: Global, _paths: &[Path]) -> io::Result<()> {
+        self.count_call()
     }
 
     fn count(&self) -> usize {

@@ -1,8 +1,6 @@
-use Rattle.std.proofs.Common.{◌≡◌, ◌∙◌, ◌++◌, ap, List, Option, map, subst, sym}
-use Rattle.std.specs.Prelude.{IfErr, OnOk, ℕ}
-use Rattle.redo_dir.specs.Stored.{Removes}
+use Rattle.std.proofs.Common.{◌∙◌, ap, List, Option, subst, sym}
+use Rattle.std.specs.Prelude.{ℕ}
 use Rattle.redo_dir.specs.inside.Batches.{Refusals}
-use Rattle.redo_dir.specs.inside.Clearing.{Leaves}
 use Rattle.redo_dir.proofs.ClearLemmas.{PutsFirst, all_cleared, what_is_uncleared}
 use Rattle.redo_dir.proofs.clearing.clear.Goals.{in-Some+in_default-put_book, in_default}
 use Rattle.redo_dir.proofs.clearing.clear.Goals as goal
@@ -21,14 +19,11 @@ returns-clause-done g c =
     let told : Refusals = λ path kind. (d : g.row.D.Denot) × g.D.DirView.refuses d path kind in
     let done = g.D.WorkDir.done in
     let own : List (List ℕ) = c.args.left.now.own.items in
-    let all = subst (λ ps. OnOk c.remove_each.result (done c.remove_each.new.dir ≡ done c.match-left.dir ++ map Removes ps)) c.deref.ensures.value c.remove_each.ensures.all in
-    let part = subst (λ ps. IfErr c.remove_each.result (Leaves told ps c.count-first.result (done c.match-left.dir) (done c.remove_each.new.dir))) c.deref.ensures.value c.remove_each.ensures.part in
-    all_cleared told c.args.over c.args.left.now.book own c.count-first.result (done c.args.dir.now) (done c.match-left.dir) (done c.remove_each.new.dir) c.remove_each.result (put_first g c) c.count-first.ensures all part
+    all_cleared told c.args.over c.args.left.now.book own c.count-first.result (done c.args.dir.now) (done c.match-left.dir) (done c.remove_each.new.dir) c.remove_each.result (put_first g c) c.count-first.ensures c.remove_each.ensures.all c.remove_each.ensures.part
 
 pub returns-clause-refused : goal.returns-clause-refused
 returns-clause-refused g c =
     let told : Refusals = λ path kind. (d : g.row.D.Denot) × g.D.DirView.refuses d path kind in
     let done = g.D.WorkDir.done in
     let own : List (List ℕ) = c.args.left.now.own.items in
-    let part = subst (λ ps. IfErr c.remove_each.result (Leaves told ps c.count-first.result (done c.match-left.dir) (done c.remove_each.new.dir))) c.deref.ensures.value c.remove_each.ensures.part in
-    what_is_uncleared told c.args.over c.args.left.now.book own c.count-first.result (done c.args.dir.now) (done c.match-left.dir) (done c.remove_each.new.dir) c.remove_each.result (put_first g c) c.count-first.ensures part
+    what_is_uncleared told c.args.over c.args.left.now.book own c.count-first.result (done c.args.dir.now) (done c.match-left.dir) (done c.remove_each.new.dir) c.remove_each.result (put_first g c) c.count-first.ensures c.remove_each.ensures.part

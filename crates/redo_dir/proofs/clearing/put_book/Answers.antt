@@ -6,6 +6,13 @@ use Rattle.redo_dir.specs.inside.Batches.{BlamesCall, Refusals}
 use Rattle.redo_dir.proofs.JournalLemmas.{call_blames}
 use Rattle.redo_dir.proofs.clearing.put_book.Goals as goal
 
+pub returns-in_err-settle-clause-refused : goal.returns-in_err-settle-clause-refused
+returns-in_err-settle-clause-refused g c =
+    let told : Refusals = λ path kind. (d : g.row.D.Denot) × g.D.DirView.refuses d path kind in
+    let error = c.in_err-settle.field-0.0 in
+    let result : Err (_) ≡ c.from_residual-in_err-settle.result = search rules in
+    subst (λ r. IfErr r (BlamesCall told book_path)) result (call_blames told book_path (error_kind error) (c.args.dir.now, c.in_err-settle.ensures.refused.0))
+
 pub returns-in_err-draft-clause-refused : goal.returns-in_err-draft-clause-refused
 returns-in_err-draft-clause-refused g c =
     let told : Refusals = λ path kind. (d : g.row.D.Denot) × g.D.DirView.refuses d path kind in

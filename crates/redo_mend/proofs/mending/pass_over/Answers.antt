@@ -1,4 +1,4 @@
-use Rattle.std.proofs.Common.{rules, ◌≡◌, ◌∙◌, ◌∷◌, [], refl}
+use Rattle.std.proofs.Common.{rules, ◌≡◌, ◌∙◌, ◌∷◌, [], inr, refl}
 use Rattle.redo_tree.specs.Tree.{without}
 use Rattle.redo_which.specs.Candidates.{journal_path}
 use Rattle.redo_mend.proofs.MendLemmas.{book-over, own-over}
@@ -14,4 +14,5 @@ returns-clause-left c =
       journal = refl;
       book = book-over tree c.is_tree.ensures mended same;
       own = own ∙ own-over tree c.is_tree.ensures mended same;
+      settle = inr (c.requires, search rules);
     }

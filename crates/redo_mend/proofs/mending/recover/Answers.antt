@@ -1,8 +1,9 @@
-use Rattle.std.proofs.Common.{rules, ◌≡◌, ◌∙◌, ◌∷◌, [], ap, refl, subst}
+use Rattle.std.proofs.Common.{rules, ◌≡◌, ◌∙◌, ◌∷◌, [], ap, inl, refl}
 use Rattle.std.specs.Prelude.{Ok}
 use Rattle.redo_tree.specs.Tree.{File, Tree, added, without}
-use Rattle.redo_which.specs.Candidates.{book_path}
+use Rattle.redo_which.specs.Candidates.{book_path, journal_path}
 use Rattle.redo_mend.specs.Mended.{book_to_put}
+use Rattle.redo_mend.specs.Recovered.{standing_by}
 use Rattle.redo_mend.proofs.MendLemmas.{own-left, own_of, recovers}
 use Rattle.redo_mend.proofs.mending.recover.Goals as goal
 
@@ -30,4 +31,5 @@ returns-clause-left g c =
       journal = refl;
       book = c.in_ok-book.ensures ∙ ap (λ (t : Tree). book_to_put t c.in_ok-mended.mended) same;
       own = own-left tree kept c.in_ok-mended.mended text c.in_ok-text.text.items c.push.new.self.items c.is_tree.ensures same own puts;
+      settle = inl (c.args.journal.book, c.requires.book, c.in_ok-to_settle.ensures ∙ ap (λ (t : Tree). journal_path ∷ standing_by t c.args.journal.book) same);
     }

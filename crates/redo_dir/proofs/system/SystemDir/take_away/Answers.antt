@@ -24,5 +24,5 @@ invariant_of-self-2 g c =
     let path = c.args.path.now in
     let more : steps_of c.note.new.done.items ≡ steps_of c.args.self.now.done.items ++ Removes path ∷ [] = search rules in
     let gone : Follows g.C.Calls.after c.args.self.now.view.calls (Unlinks (path_buf_bytes c.args.place.now) ∷ []) c.unlink.new.self = search rules in
-    let part : IsPart (seen_by S) c.args.self.now.view.top.now c.args.self.now.synced (steps_of c.args.self.now.done.items) (Unlinks (path_buf_bytes c.args.place.now) ∷ []) (Removes path ∷ []) = inl (c.requires.other, ap (λ p. Unlinks p ∷ []) c.requires.place) in
+    let part : IsPart (seen_by S) c.args.self.now.view.top.now c.args.self.now.synced (steps_of c.args.self.now.done.items) (Unlinks (path_buf_bytes c.args.place.now) ∷ []) (Removes path ∷ []) = inl (c.requires.other.0, c.requires.other.1, ap (λ p. Unlinks p ∷ []) c.requires.place) in
     record { told = told_more g.C.Calls.after S c.args.self.now.view.top.now c.args.self.now.synced c.args.self.now.view.calls c.unlink.new.self (Unlinks (path_buf_bytes c.args.place.now) ∷ []) (steps_of c.args.self.now.done.items) (Removes path ∷ []) (steps_of c.note.new.done.items) c.args.self.now.told gone part more }

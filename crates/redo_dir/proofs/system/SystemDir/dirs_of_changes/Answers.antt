@@ -3,10 +3,10 @@ use Rattle.std.proofs.lemmas.List.{map-append, take_more}
 use Rattle.std.specs.List.{AllByRecursion}
 use Rattle.std.specs.Path.{path_buf_bytes, path_join}
 use Rattle.std.specs.Prelude.{IfSome, option_copied}
-use Rattle.redo_dir.specs.Called.{IsAmong, IsCovered, dir_put}
+use Rattle.redo_dir.specs.Called.{IsAmong, IsCovered, dir_changed}
 use Rattle.redo_dir.specs.Stored.{step_of, steps_of}
 use Rattle.redo_dir.proofs.WaitLemmas.{covered_new, covered_same, last_new}
-use Rattle.redo_dir.proofs.system.SystemDir.dirs_of_puts.Goals as goal
+use Rattle.redo_dir.proofs.system.SystemDir.dirs_of_changes.Goals as goal
 
 pub loop-change-preserved-then-is_last : goal.loop-change-preserved-then-is_last
 loop-change-preserved-then-is_last g c =
@@ -18,7 +18,7 @@ loop-change-preserved-then-is_last g c =
     let within : i < length items = omega (arith, c.loop-change-test.true, c.loop-change.auto.change-index-end) in
     let one_more : take (i + 1) items ≡ take i items ++ change ∷ [] = take_more items i change within ∙ ap (λ x. take i items ++ x ∷ []) (sym c.change-item.is) in
     let seam : steps_of (take (i + 1) items) ≡ steps_of (take i items) ++ step_of change ∷ [] = ap steps_of one_more ∙ map-append step_of (take i items) (change ∷ []) in
-    let known : Some c.in-Some.dir.now ≡ dir_put (step_of change) = search rules in
+    let known : Some c.in-Some.dir.now ≡ dir_changed (step_of change) = search rules in
     let last : option_copied c.loop-change.last ≡ Some c.in-Some.dir.now = search rules in
     let there : IsCovered top places (step_of change) = subst (λ d. IfSome d (λ x. IsAmong places (path_join top x))) (last ∙ known) c.loop-change.invariant.last in
     record {
@@ -41,7 +41,7 @@ loop-change-preserved g c =
     let within : i < length items = omega (arith, c.loop-change-test.true, c.loop-change.auto.change-index-end) in
     let one_more : take (i + 1) items ≡ take i items ++ change ∷ [] = take_more items i change within ∙ ap (λ x. take i items ++ x ∷ []) (sym c.change-item.is) in
     let seam : steps_of (take (i + 1) items) ≡ steps_of (take i items) ++ step_of change ∷ [] = ap steps_of one_more ∙ map-append step_of (take i items) (change ∷ []) in
-    let known : Some dir ≡ dir_put (step_of change) = search rules in
+    let known : Some dir ≡ dir_changed (step_of change) = search rules in
     let at : place ≡ path_join top dir = search rules in
     let pushed : c.push.new.self.items ≡ c.loop-change.places.items ++ path ∷ [] = search rules in
     let more : map path_buf_bytes c.push.new.self.items ≡ places ++ place ∷ [] = ap (map path_buf_bytes) pushed ∙ map-append path_buf_bytes c.loop-change.places.items (path ∷ []) in

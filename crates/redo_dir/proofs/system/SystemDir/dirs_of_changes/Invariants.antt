@@ -4,7 +4,7 @@ use Rattle.std.specs.Path.{path_buf_bytes, path_join}
 use Rattle.std.specs.Prelude.{IfSome, option_copied}
 use Rattle.redo_dir.specs.Called.{IsAmong, IsCovered}
 use Rattle.redo_dir.specs.Stored.{steps_of}
-use Rattle.redo_dir.proofs.system.SystemDir.dirs_of_puts.Given as goal
+use Rattle.redo_dir.proofs.system.SystemDir.dirs_of_changes.Given as goal
 
 -- the directories of the first changes are there, and so is the last one
 abbrev pub invariant-loop-change : goal.invariant-loop-change
