@@ -1,5 +1,6 @@
 -- By which plan a directory is cleaned.
-use Rattle.std.specs.Prelude.{◌≡◌, List, is_some}
+use Rattle.std.specs.Prelude.{◌≡◌, List, Option, is_some}
+use Rattle.std.specs.declared.io.ErrorKind.{ErrorKind}
 use Rattle.redo_tree.specs.Tree.{Node, file_at}
 use Rattle.redo_which.specs.Candidates.{book_path}
 use Rattle.redo_dir.specs.Stored.{Step}
@@ -8,8 +9,6 @@ use Rattle.redo_clean.specs.Planned.{changed_targets, generated_files}
 use Rattle.redo_clean.specs.declared.fate.Fate.{Fate}
 use Rattle.redo_clean.specs.declared.planning.CleanPlan.{CleanPlan}
 use Rattle.redo_run.specs.declared.opening.Opened.{Opened}
-use Rattle.std.specs.Prelude.{Option}
-use Rattle.std.specs.declared.io.ErrorKind.{ErrorKind}
 
 -- the plan of what was opened of a directory
 pub record IsPlanOf (is_opened : Opened → Type 0) (plan : CleanPlan) : Type 0 where

@@ -130,7 +130,7 @@ where
     H::Dir: Send,
 {
     let lock = lock(rt, alloc, &cleaning.dir, cause)?;
-    let dir = SystemDir::locked(rt, alloc, &lock, false);
+    let dir = SystemDir::locked(rt, alloc, &lock, cleaning.synced);
     let mut dir = LenientDir::new(alloc, dir);
     let passed = clean_by(rt, alloc, &mut dir, cleaning.workers, cause)?;
     Ok(Unseen::of(alloc, &dir, passed))

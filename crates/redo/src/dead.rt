@@ -70,7 +70,7 @@ where
 /// Removes what a build of this directory doesn't need.
 fn remove_dead<H: Runtime + Threads + Wait + Sync>(
     host: &mut Host<'_, H, Progress<'_>>,
-    build: &BuildOptions,
+    dead: &Dead,
     dir: &str,
     cause: &mut Cause,
 ) -> Result<Unseen, Fault>
@@ -81,8 +81,8 @@ where
 {
     let (rt, alloc) = (host.rt, host.alloc());
     let lock = lock(rt, alloc, dir, cause)?;
-    let Tried { plan, unseen } = try_out(host, build, cause)?;
-    let mut dir = SystemDir::locked(rt, alloc, &lock, false);
+    let Tried { plan, unseen } = try_out(host, &dead.build, cause)?;
+    let mut dir = SystemDir::locked(rt, alloc, &lock, dead.synced);
     clean_by_plan(rt, alloc, &mut dir, &plan, cause)?;
     Ok(unseen)
 }
@@ -102,7 +102,7 @@ where
     let (rt, alloc, build) = (host.rt, host.alloc(), &dead.build);
     let unseen = match &build.input {
         Input::Directory(dir) if dead.cleaned && !dead.dry_run => {
-            remove_dead(host, build, dir, cause)?
+            remove_dead(host, dead, dir, cause)?
         }
         _ => {
             let Tried { plan, unseen } = try_out(host, build, cause)?;

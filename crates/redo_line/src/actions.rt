@@ -111,6 +111,8 @@ pub struct Cleaning {
     pub workers: usize,
     /// Whether nothing is removed.
     pub dry_run: bool,
+    /// Whether it waits until the files are gone from the disk before the book goes.
+    pub synced: bool,
 }
 
 /// A list, or the removal, of what a build doesn't need.
@@ -122,6 +124,8 @@ pub struct Dead {
     pub cleaned: bool,
     /// Whether the removal is only tried out: what would be removed is printed.
     pub dry_run: bool,
+    /// Whether it waits for the disk.
+    pub synced: bool,
 }
 
 /// What the command line asks for.

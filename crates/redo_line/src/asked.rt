@@ -52,6 +52,7 @@ pub(crate) fn action_of(alloc: Global, line: &Line<'_>, here: Here) -> Result<Ac
             dir: top,
             workers: workers(line),
             dry_run: line.has(DRY_RUN),
+            synced: line.has(SYNC),
         }));
     }
     let input = if line.has(BUNDLE) {
@@ -76,6 +77,7 @@ fn answer_of(alloc: Global, line: &Line<'_>, input: Input, below: &Path) -> Resu
             build: tried_build_of(alloc, line, input, below)?,
             cleaned: line.has(CLEAN),
             dry_run: line.has(DRY_RUN),
+            synced: line.has(SYNC),
         }));
     }
     if let Some(word) = line.word(WHICHDO) {

@@ -251,9 +251,12 @@ pub(crate) fn first_command(matches: &ArgMatches<'_>) -> Result<Option<&'static 
     Ok(first)
 }
 
-/// Whether a command takes an option of builds, too: a list has forms, and a clean may be tried out.
+/// Whether a command takes an option of builds, too: a list has forms, and a clean may be tried out or wait for the disk.
 fn takes(command: &str, option: Named) -> bool {
-    (command == OOD.1 && option.1 == FORMAT.1) || (command == CLEAN.1 && option.1 == DRY_RUN.1)
+    if command == CLEAN.1 {
+        return option.1 == DRY_RUN.1 || option.1 == SYNC.1;
+    }
+    command == OOD.1 && option.1 == FORMAT.1
 }
 
 /// Whether two options are the same.
